@@ -1,0 +1,2 @@
+//! CRC-32C, the checksum of metadata records.
+#![tactic(auto)]

@@ -1,0 +1,14 @@
+pub mod LogScan
+pub mod LogSelection
+pub mod FileTable
+pub mod Frames
+pub mod Mounted
+pub mod FileTree
+pub mod Headroom
+pub mod Format
+pub mod FormatExamples
+pub mod LogExamples
+pub mod ExampleImages
+pub mod MountExamples
+pub mod MaliciousImages
+pub mod FrameExamples

@@ -1,0 +1,6 @@
+//! Metadata logs, the selection of a log, and what a log and an image stand for.
+#![tactic(auto)]
+
+mod selection;
+
+pub use selection::{Chosen, Damage, DamageWhy, Refusal};

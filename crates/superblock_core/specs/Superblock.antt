@@ -1,0 +1,117 @@
+-- The superblock: 512 bytes.
+use Rattle.std.specs.Prelude.{ℕ, zero, suc, ◌+◌, ◌*◌, ◌-◌, ◌/◌, ◌%◌, ◌^◌, Bool, not, ◌&&◌, ◌||◌, List, [], ◌∷◌, ◌++◌, length, take, drop, replicate, Option, Some, None, Result, Ok, Err, nat_lt, nat_le, ◌==◌, if◌then◌else◌, slice_index, take_while}
+use Rattle.std.specs.List.{list_any, list_all}
+use Rattle.std.specs.Str.{is_utf8}
+use Rattle.std.specs.Int.{w32, from_le_bytes}
+use Rattle.record_model.specs.Name.{is_printable}
+use Rattle.record_model.specs.Numbers.{u32}
+use Rattle.superblock_core.specs.declared.superblock.Superblock.{Superblock}
+use Rattle.superblock_core.specs.declared.superblock.SbError.{SbError}
+use Rattle.superblock_core.specs.declared.superblock.SbError.TheVariants.{Magic, Version, Flags, Text}
+
+-- the four bytes at an offset, as a number
+abbrev pub u32_at : ℕ → List ℕ → ℕ
+u32_at offset bytes = from_le_bytes w32 (take 4 (drop offset bytes))
+
+-- the number with which a superblock begins
+abbrev pub magic : ℕ
+magic = 0x5A454E46
+
+-- the bytes before the first zero
+abbrev pub before_zero : List ℕ → List ℕ
+before_zero field = take_while (λ b. not (b == 0)) field
+
+-- a field of text: a zero byte, and printable text before the first one
+abbrev pub is_text_field : List ℕ → Bool
+is_text_field field = list_any (λ b. b == 0) field && is_utf8 (before_zero field) && list_all is_printable (before_zero field)
+
+-- the value of a hexadecimal digit of either case
+abbrev pub hex_value : ℕ → Option ℕ
+hex_value b =
+    if nat_le 48 b && nat_le b 57 then Some (b - 48)
+    else if nat_le 97 b && nat_le b 102 then Some (b - 87)
+    else if nat_le 65 b && nat_le b 70 then Some (b - 55) else None
+
+-- goes on with a digit, if it is one
+abbrev pub with_digit : Option ℕ → (ℕ → Option ℕ) → Option ℕ
+with_digit None next = None
+with_digit (Some d) next = next d
+
+-- a text of hexadecimal digits, with hyphens at these places, read into a number
+abbrev pub uuid_from : ℕ → ℕ → List ℕ → Option ℕ
+uuid_from place value [] = Some value
+uuid_from place value (b ∷ rest) =
+    if (place == 8) || (place == 13) || (place == 18) || (place == 23)
+    then (if b == 45 then uuid_from (place + 1) value rest else None)
+    else with_digit (hex_value b) (λ d. uuid_from (place + 1) (16 * value + d) rest)
+
+-- the identifier of a field of 37 bytes
+abbrev pub uuid_in : List ℕ → Option ℕ
+uuid_in field = if slice_index field 36 == 0 then uuid_from 0 0 (take 36 field) else None
+
+-- the field of the identifier
+abbrev pub id_field : List ℕ → List ℕ
+id_field bytes = take 37 (drop 4 bytes)
+
+-- the field of the auxiliary path
+abbrev pub path_field : List ℕ → List ℕ
+path_field bytes = take 256 (drop 69 bytes)
+
+-- the field of the version's text
+abbrev pub text_field : List ℕ → List ℕ
+text_field bytes = take 64 (drop 325 bytes)
+
+-- the superblock with this identifier, or the fault of a text
+abbrev pub superblock_with : List ℕ → Option ℕ → Result Superblock SbError
+superblock_with bytes None = Err (Text 4)
+superblock_with bytes (Some id) =
+    if not (is_text_field (path_field bytes)) then Err (Text 69)
+    else if not (is_text_field (text_field bytes)) then Err (Text 325)
+    else Ok (record {
+      id = id;
+      sequence = u32_at 41 bytes;
+      flags = u32_at 49 bytes;
+      block = u32_at 53 bytes;
+      zone_blocks = u32_at 57 bytes;
+      zones = u32_at 61 bytes;
+      finish_threshold = u32_at 65 bytes;
+      aux_path = before_zero (path_field bytes);
+      version_text = before_zero (text_field bytes);
+    })
+
+-- the superblock of 512 bytes, or the first fault
+unfoldable pub superblock_of : List ℕ → Result Superblock SbError
+superblock_of bytes =
+    if not (u32_at 0 bytes == magic) then Err Magic
+    else if not (u32_at 45 bytes == 2) then Err (Version (u32_at 45 bytes))
+    else if nat_lt 1 (u32_at 49 bytes) then Err (Flags (u32_at 49 bytes))
+    else superblock_with bytes (uuid_in (id_field bytes))
+
+-- the byte of a hexadecimal digit
+abbrev pub hex_digit : ℕ → ℕ
+hex_digit d = if nat_lt d 10 then 48 + d else 87 + d
+
+-- the last n hexadecimal digits of a number
+abbrev pub hex_digits : ℕ → ℕ → List ℕ
+hex_digits zero v = []
+hex_digits (suc n) v = hex_digits n (v / 16) ++ hex_digit (v % 16) ∷ []
+
+-- so many digits of an identifier, with so many behind them
+abbrev pub uuid_part : ℕ → ℕ → ℕ → List ℕ
+uuid_part id n low = hex_digits n (id / 16 ^ low)
+
+-- an identifier as it is written, in lower case with hyphens
+unfoldable pub uuid_text : ℕ → List ℕ
+uuid_text id =
+    uuid_part id 8 24 ++ 45 ∷ uuid_part id 4 20 ++ 45 ∷ uuid_part id 4 16 ++ 45 ∷ uuid_part id 4 12 ++ 45 ∷ uuid_part id 12 0
+
+-- bytes with zeros behind, to a length
+abbrev pub padded : ℕ → List ℕ → List ℕ
+padded n bytes = bytes ++ replicate (n - length bytes) 0
+
+-- the bytes that are written for a superblock
+unfoldable pub superblock_bytes : Superblock → List ℕ
+superblock_bytes s =
+    u32 magic ++ padded 37 (uuid_text s.id) ++ u32 s.sequence ++ u32 2 ++ u32 s.flags
+    ++ u32 s.block ++ u32 s.zone_blocks ++ u32 s.zones ++ u32 s.finish_threshold
+    ++ padded 256 s.aux_path ++ padded 64 s.version_text ++ replicate 123 0
