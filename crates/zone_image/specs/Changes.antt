@@ -1,7 +1,8 @@
 -- What the changing calls of a device make of its image.
-use Rattle.std.specs.Prelude.{ℕ, zero, suc, ◌/◌, Bool, true, ◌||◌, List, [], ◌∷◌, ◌++◌, length, take, drop, map, replicate, ◌==◌}
+use Rattle.std.specs.Prelude.{ℕ, zero, suc, ◌/◌, true, ◌||◌, List, [], ◌∷◌, ◌++◌, length, take, drop, map, replicate, ◌==◌}
 use Rattle.zone_image.specs.declared.Geometry.{Geometry}
-use Rattle.zone_image.specs.Image.{Zone, Image, no_zone}
+use Rattle.std.specs.List.{concat}
+use Rattle.zone_image.specs.Image.{Zone, Image, no_zone, zone_at}
 
 -- k blocks of the bytes
 abbrev pub chunks : ℕ → ℕ → List ℕ → List (List ℕ)
@@ -11,6 +12,10 @@ chunks block (suc k) bytes = take block bytes ∷ chunks block k (drop block byt
 -- the bytes as blocks
 abbrev pub blocks_in : Geometry → List ℕ → List (List ℕ)
 blocks_in g bytes = chunks g.block (length bytes / g.block) bytes
+
+-- the bytes of some blocks of a zone, from this block on
+abbrev pub bytes_at : Image → ℕ → ℕ → ℕ → List ℕ
+bytes_at i zone block count = concat (take count (drop block (zone_at i zone).blocks))
 
 -- changes the item of this number
 abbrev pub change_at : {A : Type 0} → ℕ → (A → A) → List A → List A

@@ -1,9 +1,9 @@
 -- The written numbers and seals of a device's zones, which every device tells.
-use Rattle.std.specs.Prelude.{◌≡◌, ℕ, ◌+◌, ◌≤◌, ◌<◌, Bool, true, false, not, ◌&&◌, ◌||◌, List, length, map, replicate, nat_lt, ◌==◌, IsTrue, All, count_by, slice_index_or}
+use Rattle.std.specs.Prelude.{take, ◌≡◌, ℕ, ◌+◌, ◌≤◌, Bool, true, false, not, ◌&&◌, ◌||◌, List, length, map, replicate, nat_lt, ◌==◌, IsTrue, All, count_by, slice_index_or}
 use Rattle.zone_image.specs.declared.Geometry.{Geometry}
 use Rattle.zone_image.specs.declared.ZoneInfo.{ZoneInfo}
 use Rattle.zone_image.specs.Image.{Zone, Image, is_valid}
-use Rattle.zone_image.specs.Changes.{change_at}
+use Rattle.zone_image.specs.Changes.{change_at, appended}
 
 -- the number and the seal of an empty zone
 abbrev pub no_info : ZoneInfo
@@ -76,3 +76,14 @@ pub record IsImage (g : Geometry) (infos : List ZoneInfo) (i : Image) : Type 0 w
   pub shape : i.geometry ≡ g
   pub told : infos_of i ≡ infos
   pub zones : All (IsZone g) i.zones
+
+-- the device now shows these numbers and seals, and this image where it tells it
+pub record Shows (tells : Type 0) (wanted_infos : List ZoneInfo) (wanted : Image) (infos : List ZoneInfo) (image : Image) : Type 0 where
+  pub same_infos : infos ≡ wanted_infos
+  pub same_image : tells → image ≡ wanted
+
+-- an append that failed wrote the first blocks, some number of them
+pub record ShowsSome (g : Geometry) (tells : Type 0) (zone : ℕ) (added : List (List ℕ)) (old_infos : List ZoneInfo) (old : Image) (infos : List ZoneInfo) (image : Image) : Type 0 where
+  pub count : ℕ
+  pub some : count ≤ length added
+  pub shows : Shows tells (infos_appended g old_infos zone count) (appended old zone (take count added)) infos image
