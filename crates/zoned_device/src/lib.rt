@@ -1,0 +1,9 @@
+//! Zoned devices: what a file system may ask of one, and devices in memory.
+#![tactic(auto)]
+
+mod device;
+mod error;
+
+pub use device::ZonedDevice;
+pub use error::{DevFault, MakeError, ProbeError};
+pub use zone_image::{Geometry, Place, ZoneInfo};
