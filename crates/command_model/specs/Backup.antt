@@ -2,6 +2,8 @@
 use Rattle.std.specs.Prelude.{◌≡◌, ℕ, ◌+◌, ◌-◌, Bool, true, false, not, ◌&&◌, ◌||◌, List, [], ◌∷◌, ◌++◌, length, map, filter, flat_map, drop, codes, Option, Some, None, is_some, Result, Ok, Err, nat_lt, ◌==◌, if◌then◌else◌}
 use Rattle.std.specs.List.{list_any, starts_with, flat_map}
 use Rattle.std.specs.Str.{bytes_eq}
+use Rattle.std.specs.Ordering.{is_lt, nat_cmp}
+use Rattle.std.specs.Cmp.Lexicographic.{slice_cmp}
 use Rattle.std.specs.Prelude.{nat_eq}
 use Rattle.record_model.specs.FieldDecoding as decoding
 use Rattle.log_model.specs.FileTree.{Tree, TreeFile, apply_all}
@@ -21,10 +23,7 @@ relative (Some prefix) name =
 
 -- bytes in order
 abbrev pub is_before : List ℕ → List ℕ → Bool
-is_before [] [] = false
-is_before [] (b ∷ bs) = true
-is_before (a ∷ rest) [] = false
-is_before (a ∷ rest) (b ∷ bs) = nat_lt a b || ((a == b) && is_before rest bs)
+is_before a b = is_lt (slice_cmp nat_cmp a b)
 
 -- puts a file in byte order of its name
 abbrev pub insert_file : RestoreFile → List RestoreFile → List RestoreFile

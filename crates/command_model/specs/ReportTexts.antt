@@ -28,7 +28,7 @@ listed_names e = map (λ name. record { name = name; size = e.size; time = e.tim
 -- puts a name in byte order
 abbrev pub insert_listed : Listed → List Listed → List Listed
 insert_listed l [] = l ∷ []
-insert_listed l (m ∷ ms) = if is_before l.name m.name then l ∷ m ∷ ms else m ∷ insert_listed l ms
+insert_listed l (m ∷ ms) = if is_before m.name l.name then m ∷ insert_listed l ms else l ∷ m ∷ ms
 
 -- names in byte order
 abbrev pub listed_in_order : List Listed → List Listed

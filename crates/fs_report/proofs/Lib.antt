@@ -1,0 +1,4 @@
+pub mod Fronts
+pub mod Padding
+pub mod StableSort
+pub mod LinesInOrder

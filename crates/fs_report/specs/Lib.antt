@@ -1,0 +1,4 @@
+pub mod ExitCode
+pub mod MemSinkState
+pub mod Written
+pub mod Lines
