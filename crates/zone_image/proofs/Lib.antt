@@ -1,1 +1,5 @@
+pub mod BlockLaws
+pub mod CrashLaws
+pub mod ImageLaws
+pub mod InfoLaws
 pub mod MomentLaws

@@ -71,6 +71,11 @@ pub record IsZone (g : Geometry) (z : Zone) : Type 0 where
   pub kept : z.kept ≤ length z.blocks
   pub blocks : All (λ b. length b ≡ g.block) z.blocks
 
+-- an image that a device may have
+pub record IsValidImage (i : Image) : Type 0 where
+  pub possible : IsPossible i.geometry (infos_of i)
+  pub zones : All (IsZone i.geometry) i.zones
+
 -- the image has this geometry and these numbers and seals
 pub record IsImage (g : Geometry) (infos : List ZoneInfo) (i : Image) : Type 0 where
   pub shape : i.geometry ≡ g
