@@ -1,0 +1,9 @@
+use Rattle.std.proofs.Common.{rules, tests}
+use Rattle.std.proofs.lemmas.Iterator.{YieldsList-from_slice}
+use Rattle.std.proofs.lemmas.Iterator.Search.{all_from_yields_List}
+use Rattle.record_model.specs.Name.{is_printable}
+use Rattle.record_model.proofs.name.are_printable.Goals as goal
+
+pub returns : goal.returns
+returns c =
+    all_from_yields_List is_printable _ _ _ c.all.ensures.ran (YieldsList-from_slice c.args.bytes.now cc) (λ x b q k. search (rules, tests))
