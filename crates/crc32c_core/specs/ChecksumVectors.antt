@@ -1,5 +1,5 @@
 -- Checksums of known texts, computed.
-use Rattle.std.specs.Prelude.{◌≡◌, [], ◌∷◌, replicate, codes, refl}
+use Rattle.std.specs.Prelude.{◌≡◌, replicate, codes, refl}
 use Rattle.crc32c_core.specs.Checksum.{crc32c, masked}
 
 -- the checksum of nine digits

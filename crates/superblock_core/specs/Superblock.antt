@@ -1,10 +1,8 @@
 -- The superblock: 512 bytes.
-use Rattle.std.specs.Prelude.{ℕ, zero, suc, ◌+◌, ◌*◌, ◌-◌, ◌/◌, ◌%◌, ◌^◌, Bool, not, ◌&&◌, ◌||◌, List, [], ◌∷◌, ◌++◌, length, take, drop, replicate, Option, Some, None, Result, Ok, Err, nat_lt, nat_le, ◌==◌, if◌then◌else◌, slice_index, take_while}
-use Rattle.std.specs.List.{list_any, list_all}
-use Rattle.std.specs.Str.{is_utf8}
+use Rattle.std.specs.Prelude.{ℕ, zero, suc, ◌+◌, ◌*◌, ◌-◌, ◌/◌, ◌%◌, ◌^◌, Bool, not, ◌&&◌, ◌||◌, List, [], ◌∷◌, ◌++◌, length, take, drop, replicate, Option, Some, None, Result, Ok, Err, nat_lt, nat_le, ◌==◌, if◌then◌else◌, slice_index}
 use Rattle.std.specs.Int.{w32, from_le_bytes}
-use Rattle.record_model.specs.Name.{is_printable}
 use Rattle.record_model.specs.Numbers.{u32}
+use Rattle.superblock_core.specs.Text.{padded, text_in}
 use Rattle.superblock_core.specs.declared.superblock.Superblock.{Superblock}
 use Rattle.superblock_core.specs.declared.superblock.SbError.{SbError}
 use Rattle.superblock_core.specs.declared.superblock.SbError.TheVariants.{Magic, Version, Flags, Text}
@@ -16,14 +14,6 @@ u32_at offset bytes = from_le_bytes w32 (take 4 (drop offset bytes))
 -- the number with which a superblock begins
 abbrev pub magic : ℕ
 magic = 0x5A454E46
-
--- the bytes before the first zero
-abbrev pub before_zero : List ℕ → List ℕ
-before_zero field = take_while (λ b. not (b == 0)) field
-
--- a field of text: a zero byte, and printable text before the first one
-abbrev pub is_text_field : List ℕ → Bool
-is_text_field field = list_any (λ b. b == 0) field && is_utf8 (before_zero field) && list_all is_printable (before_zero field)
 
 -- the value of a hexadecimal digit of either case
 abbrev pub hex_value : ℕ → Option ℕ
@@ -61,23 +51,24 @@ path_field bytes = take 256 (drop 69 bytes)
 abbrev pub text_field : List ℕ → List ℕ
 text_field bytes = take 64 (drop 325 bytes)
 
--- the superblock with this identifier, or the fault of a text
-abbrev pub superblock_with : List ℕ → Option ℕ → Result Superblock SbError
-superblock_with bytes None = Err (Text 4)
-superblock_with bytes (Some id) =
-    if not (is_text_field (path_field bytes)) then Err (Text 69)
-    else if not (is_text_field (text_field bytes)) then Err (Text 325)
-    else Ok (record {
-      id = id;
-      sequence = u32_at 41 bytes;
-      flags = u32_at 49 bytes;
-      block = u32_at 53 bytes;
-      zone_blocks = u32_at 57 bytes;
-      zones = u32_at 61 bytes;
-      finish_threshold = u32_at 65 bytes;
-      aux_path = before_zero (path_field bytes);
-      version_text = before_zero (text_field bytes);
-    })
+-- goes on with what a field of text says, if it keeps its rule
+abbrev pub with_text : {A : Type 0} → ℕ → Option A → (A → Result Superblock SbError) → Result Superblock SbError
+with_text offset None next = Err (Text offset)
+with_text offset (Some x) next = next x
+
+-- the superblock with these three, and with the numbers of the bytes
+abbrev pub with_numbers : List ℕ → ℕ → List ℕ → List ℕ → Superblock
+with_numbers bytes id path version = record {
+  id = id;
+  sequence = u32_at 41 bytes;
+  flags = u32_at 49 bytes;
+  block = u32_at 53 bytes;
+  zone_blocks = u32_at 57 bytes;
+  zones = u32_at 61 bytes;
+  finish_threshold = u32_at 65 bytes;
+  aux_path = path;
+  version_text = version;
+}
 
 -- the superblock of 512 bytes, or the first fault
 unfoldable pub superblock_of : List ℕ → Result Superblock SbError
@@ -85,7 +76,9 @@ superblock_of bytes =
     if not (u32_at 0 bytes == magic) then Err Magic
     else if not (u32_at 45 bytes == 2) then Err (Version (u32_at 45 bytes))
     else if nat_lt 1 (u32_at 49 bytes) then Err (Flags (u32_at 49 bytes))
-    else superblock_with bytes (uuid_in (id_field bytes))
+    else with_text 4 (uuid_in (id_field bytes)) (λ id.
+    with_text 69 (text_in (path_field bytes)) (λ path.
+    with_text 325 (text_in (text_field bytes)) (λ version. Ok (with_numbers bytes id path version))))
 
 -- the byte of a hexadecimal digit
 abbrev pub hex_digit : ℕ → ℕ
@@ -104,10 +97,6 @@ uuid_part id n low = hex_digits n (id / 16 ^ low)
 unfoldable pub uuid_text : ℕ → List ℕ
 uuid_text id =
     uuid_part id 8 24 ++ 45 ∷ uuid_part id 4 20 ++ 45 ∷ uuid_part id 4 16 ++ 45 ∷ uuid_part id 4 12 ++ 45 ∷ uuid_part id 12 0
-
--- bytes with zeros behind, to a length
-abbrev pub padded : ℕ → List ℕ → List ℕ
-padded n bytes = bytes ++ replicate (n - length bytes) 0
 
 -- the bytes that are written for a superblock
 unfoldable pub superblock_bytes : Superblock → List ℕ

@@ -2,5 +2,7 @@
 #![tactic(auto)]
 
 mod superblock;
+mod text;
 
-pub use superblock::{AuxPath, SbError, Superblock, VersionText};
+pub use superblock::{SbError, Superblock};
+pub use text::{AuxPath, VersionText};
