@@ -1,4 +1,5 @@
 pub mod LogScan
+pub mod ScanLaws
 pub mod LogSelection
 pub mod FileTable
 pub mod Frames

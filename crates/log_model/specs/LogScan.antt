@@ -88,9 +88,13 @@ scan_within zero block at blocks = record { payloads = []; end = Clean }
 scan_within (suc k) block at blocks =
     scan_after at (first_item block blocks) (λ count. scan_within k block (at + count) (drop count blocks))
 
+-- the log in these blocks, of which the first has this number
+abbrev pub scan_from : ℕ → ℕ → List (List ℕ) → Scan
+scan_from block at blocks = scan_within (length blocks) block at blocks
+
 -- the log in the blocks of a zone
 unfoldable pub scan : ℕ → List (List ℕ) → Scan
-scan block blocks = scan_within (length blocks + 1) block 0 blocks
+scan block blocks = scan_from block 0 blocks
 
 -- whether one of the payloads is an end
 abbrev pub has_end : List (ℕ × List ℕ) → Bool
