@@ -1,6 +1,7 @@
 pub mod LogScan
 pub mod ScanLaws
 pub mod LogSelection
+pub mod SelectionLaws
 pub mod FileTable
 pub mod Frames
 pub mod Mounted

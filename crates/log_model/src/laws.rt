@@ -7,6 +7,14 @@ ghost use Rattle.log_model.specs.ScanLaws.{
   AppendAddsPayload,
   PartIsTorn,
 };
+ghost use Rattle.log_model.specs.SelectionLaws.{
+  SkippedZoneHasNoLog,
+  PassedOverMayGo,
+  NewestIsSelected,
+  OtherMayGo,
+  FewerHaveNoTwin,
+  HigherHasNoTwin,
+};
 
 /// A bound on the records of a scan that is at least the number of blocks changes nothing.
 #[tactic(auto, using(crate::proofs::LogScanLaws::bound_is_free))]
@@ -41,4 +49,40 @@ pub fn append_adds_payload()
 #[tactic(auto, using(crate::proofs::RecordLaws::part_is_torn))]
 pub fn part_is_torn()
     ensures { PartIsTorn }
+{}
+
+/// An empty metadata zone, or one whose first record is torn, has no log.
+#[tactic(auto, using(crate::proofs::SelectionLaws::skipped_zone_has_no_log))]
+pub fn skipped_zone_has_no_log()
+    ensures { SkippedZoneHasNoLog }
+{}
+
+/// A log that is passed over may go: the same log is selected.
+#[tactic(auto, using(crate::proofs::SelectionLaws::passed_over_may_go))]
+pub fn passed_over_may_go()
+    ensures { PassedOverMayGo }
+{}
+
+/// The log with a snapshot and the highest sequence is selected.
+#[tactic(auto, using(crate::proofs::SelectionLaws::newest_is_selected))]
+pub fn newest_is_selected()
+    ensures { NewestIsSelected }
+{}
+
+/// Any other log than the selected one may go: the same log is selected.
+#[tactic(auto, using(crate::proofs::SelectionLaws::other_may_go))]
+pub fn other_may_go()
+    ensures { OtherMayGo }
+{}
+
+/// Where no two logs have one sequence, none have once a log has gone.
+#[tactic(auto, using(crate::proofs::TwinLaws::fewer_have_no_twin))]
+pub fn fewer_have_no_twin()
+    ensures { FewerHaveNoTwin }
+{}
+
+/// A log of a higher sequence than all others has no twin.
+#[tactic(auto, using(crate::proofs::TwinLaws::higher_has_no_twin))]
+pub fn higher_has_no_twin()
+    ensures { HigherHasNoTwin }
 {}
