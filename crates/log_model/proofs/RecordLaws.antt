@@ -8,9 +8,10 @@ use Rattle.std.proofs.lemmas.Nat.{from_le_bytes-to_le_bytes_4}
 use Rattle.std.proofs.lemmas.Grind.{div_ceil_times}
 use Rattle.std.specs.Int.{w32, from_le_bytes}
 use Rattle.std.specs.List.{concat}
+use Rattle.zone_image.specs.Changes.{chunks}
 use Rattle.crc32c_core.specs.Checksum.{masked}
 use Rattle.superblock_core.specs.Superblock.{u32_at}
-use Rattle.log_model.specs.LogScan.{Item, Scan, first_item, sized_item, whole_item, item_of, blocks_of, chunks, padded_blocks, record_bytes, record_sum, record_blocks, scan, scan_from, scan_within, scan_after, with_payload}
+use Rattle.log_model.specs.LogScan.{Item, Scan, first_item, sized_item, whole_item, item_of, blocks_of, padded_blocks, record_bytes, record_sum, record_blocks, scan, scan_from, scan_within, scan_after, with_payload}
 use Rattle.log_model.specs.LogScan.Item.{NoMore, Unfinished, Wrong, Whole}
 use Rattle.log_model.specs.LogScan.ScanEnd.{Clean, Torn}
 use Rattle.log_model.specs.ScanLaws.{IsRecordOf, RecordIsFound, AppendAddsPayload, PartIsTorn, followed_by}

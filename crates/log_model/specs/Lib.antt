@@ -5,6 +5,7 @@ pub mod SelectionLaws
 pub mod FileTable
 pub mod Frames
 pub mod Mounted
+pub mod MountLaws
 pub mod FileTree
 pub mod Headroom
 pub mod Format

@@ -3,6 +3,7 @@ use Rattle.std.specs.Prelude.{ℕ, zero, suc, ◌+◌, ◌*◌, ◌-◌, Bool, t
 use Rattle.std.specs.Int.{div_ceil}
 use Rattle.std.specs.List.{concat, list_any}
 use Rattle.std.specs.Str.{bytes_eq}
+use Rattle.zone_image.specs.Changes.{chunks}
 use Rattle.record_model.specs.Numbers.{u32}
 use Rattle.crc32c_core.specs.Checksum.{crc32c, masked}
 use Rattle.superblock_core.specs.Superblock.{u32_at}
@@ -18,11 +19,6 @@ record_sum payload = masked (crc32c (u32 (length payload) ++ payload))
 -- the bytes of a record
 abbrev pub record_bytes : List ℕ → List ℕ
 record_bytes payload = u32 (record_sum payload) ++ u32 (length payload) ++ payload
-
--- k blocks of the bytes
-abbrev pub chunks : ℕ → ℕ → List ℕ → List (List ℕ)
-chunks block zero bytes = []
-chunks block (suc k) bytes = take block bytes ∷ chunks block k (drop block bytes)
 
 -- so many blocks of a record, filled up with zeros
 abbrev pub padded_blocks : ℕ → ℕ → List ℕ → List (List ℕ)

@@ -7,6 +7,7 @@ ghost use Rattle.log_model.specs.ScanLaws.{
   AppendAddsPayload,
   PartIsTorn,
 };
+ghost use Rattle.log_model.specs.MountLaws.{MountReadsBlocks, FrontHasFirstFrames, FramesStayInOrder};
 ghost use Rattle.log_model.specs.SelectionLaws.{
   SkippedZoneHasNoLog,
   PassedOverMayGo,
@@ -85,4 +86,19 @@ pub fn fewer_have_no_twin()
 #[tactic(auto, using(crate::proofs::TwinLaws::higher_has_no_twin))]
 pub fn higher_has_no_twin()
     ensures { HigherHasNoTwin }
+{}
+
+/// A mount reads the geometry and the blocks of an image: seals and durable numbers change neither log nor table nor tree.
+pub fn mount_reads_blocks()
+    ensures { MountReadsBlocks }
+{}
+
+/// The first blocks of a zone have the first of its frames.
+pub fn front_has_first_frames()
+    ensures { FrontHasFirstFrames }
+{}
+
+/// Where a zone keeps its first blocks, the frames from an address in it are the first of those that were there.
+pub fn frames_stay_in_order()
+    ensures { FramesStayInOrder }
 {}
