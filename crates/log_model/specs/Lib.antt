@@ -1,8 +1,11 @@
 pub mod LogScan
+pub mod ScanLaws
 pub mod LogSelection
+pub mod SelectionLaws
 pub mod FileTable
 pub mod Frames
 pub mod Mounted
+pub mod MountLaws
 pub mod FileTree
 pub mod Headroom
 pub mod Format

@@ -3,6 +3,7 @@ use Rattle.std.specs.Prelude.{ℕ, zero, suc, ◌+◌, ◌*◌, ◌-◌, Bool, t
 use Rattle.std.specs.Int.{div_ceil}
 use Rattle.std.specs.List.{concat, list_any}
 use Rattle.std.specs.Str.{bytes_eq}
+use Rattle.zone_image.specs.Changes.{chunks}
 use Rattle.record_model.specs.Numbers.{u32}
 use Rattle.crc32c_core.specs.Checksum.{crc32c, masked}
 use Rattle.superblock_core.specs.Superblock.{u32_at}
@@ -18,11 +19,6 @@ record_sum payload = masked (crc32c (u32 (length payload) ++ payload))
 -- the bytes of a record
 abbrev pub record_bytes : List ℕ → List ℕ
 record_bytes payload = u32 (record_sum payload) ++ u32 (length payload) ++ payload
-
--- k blocks of the bytes
-abbrev pub chunks : ℕ → ℕ → List ℕ → List (List ℕ)
-chunks block zero bytes = []
-chunks block (suc k) bytes = take block bytes ∷ chunks block k (drop block bytes)
 
 -- so many blocks of a record, filled up with zeros
 abbrev pub padded_blocks : ℕ → ℕ → List ℕ → List (List ℕ)
@@ -88,9 +84,13 @@ scan_within zero block at blocks = record { payloads = []; end = Clean }
 scan_within (suc k) block at blocks =
     scan_after at (first_item block blocks) (λ count. scan_within k block (at + count) (drop count blocks))
 
+-- the log in these blocks, of which the first has this number
+abbrev pub scan_from : ℕ → ℕ → List (List ℕ) → Scan
+scan_from block at blocks = scan_within (length blocks) block at blocks
+
 -- the log in the blocks of a zone
 unfoldable pub scan : ℕ → List (List ℕ) → Scan
-scan block blocks = scan_within (length blocks + 1) block 0 blocks
+scan block blocks = scan_from block 0 blocks
 
 -- whether one of the payloads is an end
 abbrev pub has_end : List (ℕ × List ℕ) → Bool

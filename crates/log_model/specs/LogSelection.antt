@@ -1,5 +1,5 @@
 -- Which log of the three metadata zones counts.
-use Rattle.std.specs.Prelude.{ℕ, ◌+◌, Bool, true, false, not, ◌&&◌, max, List, [], ◌∷◌, ◌++◌, length, Option, Some, None, Result, Ok, Err, nat_lt, ◌==◌, if◌then◌else◌, map}
+use Rattle.std.specs.Prelude.{ℕ, ◌+◌, Bool, true, false, not, ◌&&◌, max, List, [], ◌∷◌, ◌++◌, length, Option, Some, None, Result, Ok, Err, nat_lt, ◌==◌, if◌then◌else◌, filter, map}
 use Rattle.std.specs.List.{list_any}
 use Rattle.zone_image.specs.declared.Geometry.{Geometry}
 use Rattle.zone_image.specs.Image.{Image, zone_at}
@@ -61,7 +61,7 @@ abbrev pub add_log : Option LogAt → List LogAt → List LogAt
 add_log None logs = logs
 add_log (Some log) logs = log ∷ logs
 
--- the logs of these zones, by number, or the first refusal
+-- the logs of the zones from this one on, or the first refusal
 abbrev pub logs_from : Geometry → ℕ → List Scan → Result (List LogAt) Refusal
 logs_from g zone [] = Ok []
 logs_from g zone (c ∷ cs) = do
@@ -80,47 +80,63 @@ abbrev pub no_twin : List LogAt → Option LogAt → Result (List LogAt) Refusal
 no_twin logs None = Ok logs
 no_twin logs (Some log) = damaged log.zone 0 (why.Twin log.superblock.sequence)
 
--- from the highest sequence down
-abbrev pub insert_log : LogAt → List LogAt → List LogAt
-insert_log log [] = log ∷ []
-insert_log log (l ∷ ls) =
-    if nat_lt l.superblock.sequence log.superblock.sequence then log ∷ l ∷ ls else l ∷ insert_log log ls
-
--- logs from the highest sequence down
-abbrev pub by_falling_sequence : List LogAt → List LogAt
-by_falling_sequence [] = []
-by_falling_sequence (log ∷ logs) = insert_log log (by_falling_sequence logs)
-
 -- a second payload has to be a snapshot
-abbrev pub is_complete : ℕ → ℕ → Result Record DecodeFault → Result Bool Refusal
-is_complete zone block (Ok (Snapshot files)) = Ok true
-is_complete zone block (Ok r) = damaged zone block (why.Rule 1)
-is_complete zone block (Err fault) = damaged zone block (why.Decode fault)
+abbrev pub is_snapshot : ℕ → ℕ → Result Record DecodeFault → Result Bool Refusal
+is_snapshot zone block (Ok (Snapshot files)) = Ok true
+is_snapshot zone block (Ok r) = damaged zone block (why.Rule 1)
+is_snapshot zone block (Err fault) = damaged zone block (why.Decode fault)
 
--- whether a log counts: it has a snapshot; one without is passed over
-abbrev pub has_snapshot : ℕ → ScanEnd → List (ℕ × List ℕ) → Result Bool Refusal
-has_snapshot zone (Bad block len stored computed) payloads = damaged zone block (bad_record len stored computed)
-has_snapshot zone end (s ∷ p ∷ ps) = is_complete zone p.0 (record_of p.1)
-has_snapshot zone end payloads = Ok false
+-- whether a log of these payloads has its snapshot yet, or its damage
+abbrev pub snapshot_in : ℕ → ScanEnd → List (ℕ × List ℕ) → Result Bool Refusal
+snapshot_in zone (Bad block len stored computed) payloads = damaged zone block (bad_record len stored computed)
+snapshot_in zone end (s ∷ p ∷ ps) = is_snapshot zone p.0 (record_of p.1)
+snapshot_in zone end payloads = Ok false
+
+-- whether a log has its snapshot yet, or its damage
+abbrev pub has_snapshot : LogAt → Result Bool Refusal
+has_snapshot log = snapshot_in log.zone log.scan.end log.scan.payloads
+
+-- it is there, or the log is damaged
+abbrev pub decides : Result Bool Refusal → Bool
+decides (Ok there) = there
+decides (Err why) = true
+
+-- a log without damage and without a snapshot is passed over; any other one isn't
+abbrev pub counts : LogAt → Bool
+counts log = decides (has_snapshot log)
+
+-- the one of the higher sequence
+abbrev pub newer : LogAt → Option LogAt → Option LogAt
+newer log None = Some log
+newer log (Some other) = if nat_lt log.superblock.sequence other.superblock.sequence then Some other else Some log
+
+-- the log of the highest sequence
+abbrev pub newest : List LogAt → Option LogAt
+newest [] = None
+newest (log ∷ logs) = newer log (newest logs)
+
+-- the log, unless it is damaged
+abbrev pub undamaged : Option LogAt → Result LogAt Refusal
+undamaged None = Err NoFileSystem
+undamaged (Some log) = do
+  there ← has_snapshot log
+  Ok log
+
+-- the newest log that isn't passed over
+abbrev pub current_log : List LogAt → Result LogAt Refusal
+current_log logs = undamaged (newest (filter counts logs))
 
 -- the highest sequence of these logs
 abbrev pub greatest_sequence : List LogAt → ℕ
 greatest_sequence [] = 0
 greatest_sequence (log ∷ logs) = max log.superblock.sequence (greatest_sequence logs)
 
--- the first of the logs that counts
-abbrev pub first_with_snapshot : List LogAt → Result LogAt Refusal
-first_with_snapshot [] = Err NoFileSystem
-first_with_snapshot (log ∷ logs) = do
-  it ← has_snapshot log.zone log.scan.end log.scan.payloads
-  if it then Ok log else first_with_snapshot logs
-
--- the log that counts, of these three cuts
+-- the log that counts, and the highest sequence, of the scans of the metadata zones
 unfoldable pub select_log : Geometry → List Scan → Result (LogAt × ℕ) Refusal
 select_log g scans = do
   found ← logs_from g 0 scans
   logs ← no_twin found (twin [] found)
-  log ← first_with_snapshot (by_falling_sequence logs)
+  log ← current_log logs
   Ok (log, greatest_sequence logs)
 
 -- a log as it is chosen
@@ -136,7 +152,7 @@ chosen_of l = record {
 abbrev pub scans_of : Image → List Scan
 scans_of i = map (λ z. scan i.geometry.block (zone_at i z).blocks) (0 ∷ 1 ∷ 2 ∷ [])
 
--- the choice on an image
+-- the log that counts on an image
 abbrev pub selected_log : Image → Result Chosen Refusal
 selected_log i = do
   l ← select_log i.geometry (scans_of i)

@@ -1,0 +1,104 @@
+//! Laws of the definitions: each function does nothing, and its contract is a law.
+ghost use Rattle.log_model.specs.ScanLaws.{
+  BoundIsFree,
+  FrontScansToFront,
+  CleanScanGoesOn,
+  RecordIsFound,
+  AppendAddsPayload,
+  PartIsTorn,
+};
+ghost use Rattle.log_model.specs.MountLaws.{MountReadsBlocks, FrontHasFirstFrames, FramesStayInOrder};
+ghost use Rattle.log_model.specs.SelectionLaws.{
+  SkippedZoneHasNoLog,
+  PassedOverMayGo,
+  NewestIsSelected,
+  OtherMayGo,
+  FewerHaveNoTwin,
+  HigherHasNoTwin,
+};
+
+/// A bound on the records of a scan that is at least the number of blocks changes nothing.
+#[tactic(auto, using(crate::proofs::LogScanLaws::bound_is_free))]
+pub fn bound_is_free()
+    ensures { BoundIsFree }
+{}
+
+/// The first blocks of a zone have the first of its payloads, and no damage that the zone doesn't have.
+pub fn front_scans_to_front()
+    ensures { FrontScansToFront }
+{}
+
+/// Behind blocks that scan clean the scan goes on with what follows.
+#[tactic(auto, using(crate::proofs::LogScanLaws::clean_scan_goes_on))]
+pub fn clean_scan_goes_on()
+    ensures { CleanScanGoesOn }
+{}
+
+/// The blocks of a record scan to its payload, and the scan goes on behind them.
+#[tactic(auto, using(crate::proofs::RecordLaws::record_is_found))]
+pub fn record_is_found()
+    ensures { RecordIsFound }
+{}
+
+/// A record behind a clean log is one payload more.
+#[tactic(auto, using(crate::proofs::RecordLaws::append_adds_payload))]
+pub fn append_adds_payload()
+    ensures { AppendAddsPayload }
+{}
+
+/// A part of a record behind a clean log is torn, and the payloads stay.
+#[tactic(auto, using(crate::proofs::RecordLaws::part_is_torn))]
+pub fn part_is_torn()
+    ensures { PartIsTorn }
+{}
+
+/// An empty metadata zone, or one whose first record is torn, has no log.
+#[tactic(auto, using(crate::proofs::SelectionLaws::skipped_zone_has_no_log))]
+pub fn skipped_zone_has_no_log()
+    ensures { SkippedZoneHasNoLog }
+{}
+
+/// A log that is passed over may go: the same log is selected.
+#[tactic(auto, using(crate::proofs::SelectionLaws::passed_over_may_go))]
+pub fn passed_over_may_go()
+    ensures { PassedOverMayGo }
+{}
+
+/// The log with a snapshot and the highest sequence is selected.
+#[tactic(auto, using(crate::proofs::SelectionLaws::newest_is_selected))]
+pub fn newest_is_selected()
+    ensures { NewestIsSelected }
+{}
+
+/// Any other log than the selected one may go: the same log is selected.
+#[tactic(auto, using(crate::proofs::SelectionLaws::other_may_go))]
+pub fn other_may_go()
+    ensures { OtherMayGo }
+{}
+
+/// Where no two logs have one sequence, none have once a log has gone.
+#[tactic(auto, using(crate::proofs::TwinLaws::fewer_have_no_twin))]
+pub fn fewer_have_no_twin()
+    ensures { FewerHaveNoTwin }
+{}
+
+/// A log of a higher sequence than all others has no twin.
+#[tactic(auto, using(crate::proofs::TwinLaws::higher_has_no_twin))]
+pub fn higher_has_no_twin()
+    ensures { HigherHasNoTwin }
+{}
+
+/// A mount reads the geometry and the blocks of an image: seals and durable numbers change neither log nor table nor tree.
+pub fn mount_reads_blocks()
+    ensures { MountReadsBlocks }
+{}
+
+/// The first blocks of a zone have the first of its frames.
+pub fn front_has_first_frames()
+    ensures { FrontHasFirstFrames }
+{}
+
+/// Where a zone keeps its first blocks, the frames from an address in it are the first of those that were there.
+pub fn frames_stay_in_order()
+    ensures { FramesStayInOrder }
+{}
