@@ -29,12 +29,12 @@ abbrev hello : List RestoreFile
 hello = (record { name = codes "a.txt"; hint = 0; sparse = false; bytes = codes "hello" }) ∷ []
 
 -- its extent
-restored_hello : extents (planned_layout (TreeCommand.ARestore hello) 7 (locked formatted)).last.fs ≡ ((record { start = 24576; len = 5 }) ∷ []) ∷ []
+restored_hello : extents (planned_layout (TreeCommand.RestoreFiles hello) 7 (locked formatted)).last.fs ≡ ((record { start = 24576; len = 5 }) ∷ []) ∷ []
 unfolding planned_layout create mount_write roll commit recovery_point_fits take_zone note_extent extent_fits give_back mark_open mark_closed writers.sync writers.close choose_zone payload_of entry_bytes varint log_need change_need
 restored_hello = refl
 
 -- the blocks of the first zones: a log of five, and one block of data
-restored_zones : written (planned_layout (TreeCommand.ARestore hello) 7 (locked formatted)).last.fs ≡ 0 ∷ 5 ∷ 0 ∷ 1 ∷ 0 ∷ []
+restored_zones : written (planned_layout (TreeCommand.RestoreFiles hello) 7 (locked formatted)).last.fs ≡ 0 ∷ 5 ∷ 0 ∷ 1 ∷ 0 ∷ []
 unfolding planned_layout create mount_write roll commit recovery_point_fits take_zone note_extent extent_fits give_back mark_open mark_closed writers.sync writers.close choose_zone payload_of entry_bytes varint log_need change_need
 restored_zones = refl
 
@@ -54,7 +54,7 @@ abbrev states_passed : Trace LockState NoValue → List LockState
 states_passed r = r.passed
 
 -- a name that isn't there is told before anything is written
-delete_absent : (planned_layout (TreeCommand.ADelete (codes "x")) 7 (locked formatted)) ≡ record { passed = states_passed (planned_layout (TreeCommand.ADelete (codes "x")) 7 (locked formatted)); last = locked formatted; answer = Err NotFound }
+delete_absent : (planned_layout (TreeCommand.DeleteName (codes "x")) 7 (locked formatted)) ≡ record { passed = states_passed (planned_layout (TreeCommand.DeleteName (codes "x")) 7 (locked formatted)); last = locked formatted; answer = Err NotFound }
 unfolding planned_layout create mount_write roll delete payload_of entry_bytes varint log_need change_need
 delete_absent = refl
 
@@ -77,12 +77,12 @@ abbrev at_end : FsState
 at_end = record formatted { rows = empty_row 1 (codes "a") ∷ []; greatest = 1; log = record (formatted.log) { greatest = 2 ^ 32 - 1 } }
 
 -- a deletion that would have to roll
-delete_at_end : answer_of (TreeCommand.ADelete (codes "a")) at_end ≡ Err SequenceEnd
+delete_at_end : answer_of (TreeCommand.DeleteName (codes "a")) at_end ≡ Err SequenceEnd
 unfolding planned_layout create mount_write roll delete commit recovery_point_fits take_zone note_extent extent_fits show give_back mark_open mark_closed writers.sync writers.close choose_zone payload_of entry_bytes varint log_need change_need
 delete_at_end = refl
 
 -- a name that isn't there is told first
-delete_absent_at_end : answer_of (TreeCommand.ADelete (codes "x")) at_end ≡ Err NotFound
+delete_absent_at_end : answer_of (TreeCommand.DeleteName (codes "x")) at_end ≡ Err NotFound
 unfolding planned_layout create mount_write roll delete commit recovery_point_fits take_zone note_extent extent_fits show give_back mark_open mark_closed writers.sync writers.close choose_zone payload_of entry_bytes varint log_need change_need
 delete_absent_at_end = refl
 
@@ -95,7 +95,7 @@ abbrev last_id : FsState
 last_id = record formatted { rows = empty_row (2 ^ 64 - 2) (codes "a") ∷ []; greatest = 2 ^ 64 - 2 }
 
 -- no id is left for one more file
-restore_past_ids : answer_of (TreeCommand.ARestore (one_file [])) last_id ≡ Err IdsEnd
+restore_past_ids : answer_of (TreeCommand.RestoreFiles (one_file [])) last_id ≡ Err IdsEnd
 unfolding planned_layout create mount_write roll delete commit recovery_point_fits take_zone note_extent extent_fits show give_back mark_open mark_closed writers.sync writers.close choose_zone payload_of entry_bytes varint log_need change_need
 restore_past_ids = refl
 
@@ -121,7 +121,7 @@ abbrev no_room : FsState
 no_room = record formatted { zones = zone 7 ∷ zone 0 ∷ zone 0 ∷ replicate 29 full; rows = full_rows 29 1; greatest = 29 }
 
 -- a byte more finds no zone
-restore_without_space : answer_of (TreeCommand.ARestore (one_file (7 ∷ []))) no_room ≡ Err NoSpace
+restore_without_space : answer_of (TreeCommand.RestoreFiles (one_file (7 ∷ []))) no_room ≡ Err NoSpace
 unfolding planned_layout create mount_write roll delete commit recovery_point_fits take_zone note_extent extent_fits show give_back mark_open mark_closed writers.sync writers.close choose_zone payload_of entry_bytes varint log_need change_need
 restore_without_space = refl
 
@@ -130,7 +130,7 @@ abbrev sizes : FsState → List ℕ
 sizes s = map (λ r. r.shown) s.rows
 
 -- the new name stands, with no bytes
-left_without_space : sizes (planned_layout (TreeCommand.ARestore (one_file (7 ∷ []))) 7 (locked no_room)).last.fs ≡ replicate 29 8192 ++ 0 ∷ []
+left_without_space : sizes (planned_layout (TreeCommand.RestoreFiles (one_file (7 ∷ []))) 7 (locked no_room)).last.fs ≡ replicate 29 8192 ++ 0 ∷ []
 unfolding planned_layout create mount_write roll delete commit recovery_point_fits take_zone note_extent extent_fits show give_back mark_open mark_closed writers.sync writers.close choose_zone payload_of entry_bytes varint log_need change_need
 left_without_space = refl
 
@@ -148,12 +148,12 @@ littered = record formatted {
 }
 
 -- the first byte finds no space; the collection is settled, and the byte goes into a zone that it emptied
-settled_restore : answer_of (TreeCommand.ARestore (one_file (7 ∷ []))) littered ≡ Ok tt
+settled_restore : answer_of (TreeCommand.RestoreFiles (one_file (7 ∷ []))) littered ≡ Ok tt
 unfolding planned_layout create mount_write roll delete commit recovery_point_fits take_zone note_extent extent_fits show give_back mark_open mark_closed writers.sync writers.close choose_zone payload_of entry_bytes varint log_need change_need settle round victim hold replace reset_victim
 settled_restore = refl
 
 -- the live blocks went into the empty zone
-settled_zones : map (λ n. (descriptor_at (planned_layout (TreeCommand.ARestore (one_file (7 ∷ []))) 7 (locked littered)).last.fs n).info.written) (25 ∷ 26 ∷ 27 ∷ []) ≡ 1 ∷ 0 ∷ 2 ∷ []
+settled_zones : map (λ n. (descriptor_at (planned_layout (TreeCommand.RestoreFiles (one_file (7 ∷ []))) 7 (locked littered)).last.fs n).info.written) (25 ∷ 26 ∷ 27 ∷ []) ≡ 1 ∷ 0 ∷ 2 ∷ []
 unfolding planned_layout create mount_write roll delete commit recovery_point_fits take_zone note_extent extent_fits show give_back mark_open mark_closed writers.sync writers.close choose_zone payload_of entry_bytes varint log_need change_need settle round victim hold replace reset_victim
 settled_zones = refl
 

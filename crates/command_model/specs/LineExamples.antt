@@ -115,7 +115,7 @@ load_both = refl
 
 -- ---- scripts
 
--- a newline behind a text
+-- texts, each with a newline at its end
 abbrev pub lines : List (List ℕ) → List ℕ
 lines [] = []
 lines (t ∷ ts) = t ++ 10 ∷ lines ts

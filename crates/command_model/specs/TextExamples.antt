@@ -31,7 +31,7 @@ one_file = (record { id = 1; size = 5; hint = 0; time = 1700000000; active = 2 ^
 abbrev zone : ℕ → ℕ → ℕ → ZoneState
 zone written live live_bytes = record { info = record { written = written; sealed = false }; owner = Idle; hint = 0; live = live; live_bytes = live_bytes }
 
--- the zones behind it
+-- the zones of its image
 abbrev its_zones : List ZoneState
 its_zones = zone 0 0 0 ∷ zone 5 0 0 ∷ zone 0 0 0 ∷ zone 1 1 5 ∷ replicate 28 (zone 0 0 0)
 

@@ -100,17 +100,17 @@ never h = absurd (false≢true h)
 one_job_legal : AreLegal (initial_history []) one_job
 unfolding apply
 one_job_legal = (
-  (record { named = refl; last_change = never; unsure_change = never; taken = refl; changes = (refl, refl); synced = tt; read = tt }),
+  (record { expected = refl; last_change = never; unsure_change = never; taken = refl; changes = (refl, refl); synced = tt; read = tt }),
   (
-    (record { named = refl; last_change = never; unsure_change = never; taken = refl; changes = (tt, refl); synced = tt; read = tt }),
+    (record { expected = refl; last_change = never; unsure_change = never; taken = refl; changes = (tt, refl); synced = tt; read = tt }),
     (
-      (record { named = refl; last_change = never; unsure_change = never; taken = refl; changes = ((refl, omega arith, omega arith, tt), refl); synced = (λ _. refl); read = tt }),
+      (record { expected = refl; last_change = never; unsure_change = never; taken = refl; changes = ((refl, omega arith, omega arith, tt), refl); synced = (λ _. refl); read = tt }),
       (
-        (record { named = refl; last_change = never; unsure_change = never; taken = refl; changes = (refl, refl); synced = tt; read = ((refl, refl), λ h. cc) }),
+        (record { expected = refl; last_change = never; unsure_change = never; taken = refl; changes = (refl, refl); synced = tt; read = ((refl, refl), λ h. cc) }),
         (
-          (record { named = refl; last_change = never; unsure_change = never; taken = refl; changes = (tt, refl); synced = (λ _. refl); read = tt }),
+          (record { expected = refl; last_change = never; unsure_change = never; taken = refl; changes = (tt, refl); synced = (λ _. refl); read = tt }),
           (
-            (record { named = (inl refl); last_change = never; unsure_change = never; taken = refl; changes = (refl, refl); synced = tt; read = tt }),
+            (record { expected = (inl refl); last_change = never; unsure_change = never; taken = refl; changes = (refl, refl); synced = tt; read = tt }),
             tt,
           ),
         ),
@@ -169,11 +169,11 @@ rename_last =
 rename_last_legal : AreLegal (initial_history []) rename_last
 unfolding apply
 rename_last_legal = (
-  (record { named = refl; last_change = never; unsure_change = never; taken = refl; changes = (refl, refl); synced = tt; read = tt }),
+  (record { expected = refl; last_change = never; unsure_change = never; taken = refl; changes = (refl, refl); synced = tt; read = tt }),
   (
-    (record { named = refl; last_change = never; unsure_change = never; taken = refl; changes = (tt, refl); synced = (λ _. refl); read = tt }),
+    (record { expected = refl; last_change = never; unsure_change = never; taken = refl; changes = (tt, refl); synced = (λ _. refl); read = tt }),
     (
-      (record { named = refl; last_change = never; unsure_change = never; taken = refl; changes = (refl, refl); synced = tt; read = tt }),
+      (record { expected = refl; last_change = never; unsure_change = never; taken = refl; changes = (refl, refl); synced = tt; read = tt }),
       tt,
     ),
   ),
@@ -199,11 +199,11 @@ rename_first =
 rename_first_legal : AreLegal (initial_history []) rename_first
 unfolding apply
 rename_first_legal = (
-  (record { named = (inl refl); last_change = never; unsure_change = never; taken = refl; changes = (refl, refl); synced = tt; read = tt }),
+  (record { expected = (inl refl); last_change = never; unsure_change = never; taken = refl; changes = (refl, refl); synced = tt; read = tt }),
   (
-    (record { named = refl; last_change = never; unsure_change = never; taken = refl; changes = (refl, refl); synced = tt; read = tt }),
+    (record { expected = refl; last_change = never; unsure_change = never; taken = refl; changes = (refl, refl); synced = tt; read = tt }),
     (
-      (record { named = refl; last_change = never; unsure_change = never; taken = refl; changes = (tt, refl); synced = (λ _. refl); read = tt }),
+      (record { expected = refl; last_change = never; unsure_change = never; taken = refl; changes = (tt, refl); synced = (λ _. refl); read = tt }),
       tt,
     ),
   ),

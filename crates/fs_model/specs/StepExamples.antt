@@ -1,5 +1,5 @@
 -- Worked cases of the steps, computed.
-use Rattle.std.specs.Prelude.{◌≡◌, ℕ, zero, suc, ◌+◌, true, false, List, [], ◌∷◌, replicate, map, codes, None, Ok, Err, refl}
+use Rattle.std.specs.Prelude.{◌≡◌, ℕ, zero, suc, ◌+◌, true, false, List, [], ◌∷◌, replicate, map, codes, Ok, Err, refl}
 use Rattle.zone_image.specs.declared.Geometry.{Geometry}
 use Rattle.record_model.specs.Numbers.{varint}
 use Rattle.record_model.specs.Encoding.{payload_of, entry_bytes}
@@ -12,7 +12,7 @@ use Rattle.fs_model.specs.FsState.{FsState, ZoneDescriptor, descriptor_at}
 use Rattle.fs_model.specs.Trace.{done, ◌>>◌}
 use Rattle.fs_model.specs.LogSteps.{NoValue, FsAction, roll}
 use Rattle.fs_model.specs.TreeSteps.{create, rename, delete, mount_write}
-use Rattle.fs_model.specs.Turn.{LockState}
+use Rattle.fs_model.specs.Turn.{LockState, new_lock}
 
 -- a small device
 abbrev pub g : Geometry
@@ -116,6 +116,6 @@ one_deleted : (delete (name 3) (seven_files (formatted_on c)).last).answer ≡ O
 unfolding create mount_write roll delete payload_of entry_bytes varint log_need change_need
 one_deleted = refl
 
--- a restore of one file of five bytes
+-- a lock over it
 abbrev pub locked : FsState → LockState
-locked s = record { fs = s; slots = []; migration = None }
+locked s = new_lock s
