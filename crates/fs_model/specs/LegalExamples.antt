@@ -1,6 +1,6 @@
 -- Legal histories, computed.
 use Rattle.std.specs.Prelude.{◌≡◌, ℕ, true, false, List, [], ◌∷◌, codes, replicate, map, refl}
-use Rattle.std.proofs.Common.{inl, arith}
+use Rattle.std.proofs.Common.{inl, sym, arith}
 use Rattle.std.proofs.lemmas.Bool.{false≢true}
 use Rattle.record_model.specs.Numbers.{varint}
 use Rattle.crc32c_core.specs.Checksum.{crc32c}
@@ -239,3 +239,29 @@ rename_first_runs = (
     ((refl, refl), ((turn 1 ops.Close 7 (next 1 open_a (next 2 rename_a start))).passed, [], refl, refl), refl),
   ),
 )
+
+-- ---- histories that aren't legal
+
+-- a file is made, and five bytes are appended
+abbrev written_five : List Entry → List Entry
+written_five es = entry 1 open_a replies.Done (made.Create 1 ∷ []) 0 ∷ entry 1 five replies.Done [] 5 ∷ es
+
+-- a sync that answers Done shows all bytes
+dropped_sync : AreLegal (initial_history []) (written_five (entry 1 ops.Sync replies.Done [] 0 ∷ [])) → ⊥
+unfolding apply
+dropped_sync h = omega (arith, h.1.1.0.synced refl)
+
+-- a read finds no bytes that weren't synced
+invented_read : AreLegal (initial_history []) (written_five (entry 1 (ops.Read a) five_read [] 0 ∷ [])) → ⊥
+unfolding apply
+invented_read h = omega (arith, h.1.1.0.read.0.0)
+
+-- an append that answers Done takes all its bytes
+short_append : AreLegal (initial_history []) (entry 1 open_a replies.Done (made.Create 1 ∷ []) 0 ∷ entry 1 five replies.Done [] 4 ∷ []) → ⊥
+unfolding apply
+short_append h = omega (arith, h.1.0.taken)
+
+-- a name that is there is found
+refused_delete : AreLegal (initial_history []) (entry 1 open_a replies.Done (made.Create 1 ∷ []) 0 ∷ entry 2 (ops.Delete a) (replies.Refused NotFound) [] 0 ∷ []) → ⊥
+unfolding apply
+refused_delete h = false≢true (sym h.1.0.expected)
