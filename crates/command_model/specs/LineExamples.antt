@@ -11,7 +11,7 @@ use Rattle.command_model.specs.CommandLine.{command, image_path, bad_name_of}
 use Rattle.command_model.specs.CommandLine.Command.{MakeImage, MakeFs, ListFiles, Backup, RenameFile}
 use Rattle.command_model.specs.LoadLine.{Lines, load_command, script_path, load_image}
 use Rattle.command_model.specs.Script.{script}
-use Rattle.command_model.specs.GeneratedScript.{file_lines}
+use Rattle.command_model.specs.GeneratedScript.{file_lines, lines_of_files}
 
 -- numbers: zero, the greatest, one above it, a leading zero, none
 zero_read : number_in (codes "0") ≡ Some 0
@@ -188,3 +188,10 @@ first_wrong = refl
 made_lines : file_lines 6 (1 + 2 * 2 ^ 16 + 9 * 2 ^ 24) ≡ lines (codes "1 open g6 3 s" ∷ codes "1 append 10 6" ∷ codes "1 append 10 6" ∷ codes "1 append 10 6" ∷ codes "1 sync" ∷ codes "1 close" ∷ codes "1 delete g2" ∷ [])
 unfolding digits
 made_lines = refl
+
+-- the lines of the first two files of seed 7
+seed_seven : lines_of_files 2 1 7 ≡ lines (
+    codes "2 open g1 3 b" ∷ codes "2 append 1114 1" ∷ codes "2 append 1114 1" ∷ codes "2 append 1114 1" ∷ codes "2 sync" ∷ codes "2 close"
+    ∷ codes "1 open g2 0 b" ∷ codes "1 append 2037 2" ∷ codes "1 sync" ∷ codes "1 close" ∷ [])
+unfolding digits
+seed_seven = refl
