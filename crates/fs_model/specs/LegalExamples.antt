@@ -6,7 +6,7 @@ use Rattle.record_model.specs.Numbers.{varint}
 use Rattle.crc32c_core.specs.Checksum.{crc32c}
 use Rattle.record_model.specs.Encoding.{payload_of, entry_bytes}
 use Rattle.log_model.specs.Headroom.{log_need, change_need}
-use Rattle.log_model.specs.FileTree.{apply}
+use Rattle.log_model.specs.FileTree.{Tree, apply}
 use Rattle.fs_model.specs.declared.error.FsError.TheVariants.{NotFound}
 use Rattle.fs_model.specs.declared.operations.Op.{Op}
 use Rattle.fs_model.specs.declared.operations.Op.TheVariants as ops
@@ -22,6 +22,7 @@ use Rattle.fs_model.specs.FileSteps.{commit, recovery_point_fits, take_zone, not
 use Rattle.fs_model.specs.WriterSteps as writers
 use Rattle.fs_model.specs.Turn.{LockState, turn}
 use Rattle.fs_model.specs.History.{initial_history, after_entries}
+use Rattle.fs_model.specs.HistoryCover.{acknowledged_by, tree_after}
 use Rattle.fs_model.specs.LegalHistory.{AreLegal}
 use Rattle.fs_model.specs.Execution.{IsExecution, IsLegalHistory}
 use Rattle.fs_model.specs.StepExamples.{formatted, locked}
@@ -151,6 +152,19 @@ one_job_runs = (
 -- so the history is legal
 one_job_history : IsLegalHistory [] start one_job
 one_job_history = (one_job_legal, opened ∷ appended ∷ synced ∷ read_back ∷ closed ∷ ended ∷ [], one_job_runs)
+
+-- its changes: a file, and five bytes of it
+one_job_acknowledged : acknowledged_by 0 one_job ≡ 2
+one_job_acknowledged = refl
+
+-- the bytes of the files of a tree
+abbrev bytes_of_files : Tree → List (List ℕ)
+bytes_of_files tree = map (λ f. f.bytes) tree
+
+-- after none of them there is no file, after one an empty file, and after both it has its bytes
+one_job_prefixes : map (λ made. bytes_of_files (tree_after made [] one_job)) (0 ∷ 1 ∷ 2 ∷ []) ≡ [] ∷ ([] ∷ []) ∷ (replicate 5 104 ∷ []) ∷ []
+unfolding apply
+one_job_prefixes = refl
 
 -- ---- two jobs, of which the second renames what the first makes
 
