@@ -8,20 +8,20 @@ use Rattle.std.specs.Prelude.{nat_eq}
 use Rattle.record_model.specs.FieldDecoding as decoding
 use Rattle.log_model.specs.FileTree.{Tree, TreeFile, apply_all}
 use Rattle.command_model.specs.TreeCommands.{RestoreFile, planned_changes}
-use Rattle.command_model.specs.TreeCommands.TreeCommand.{ARestore}
+use Rattle.command_model.specs.TreeCommands.TreeCommand.{RestoreFiles}
 
 -- a file of a host directory
 pub record HostEntry : Type 0 where
   pub path : List ℕ
   pub bytes : List ℕ
 
--- the part of a name behind the prefix and a slash
+-- the part of a name after the prefix and a slash
 abbrev pub relative : Option (List ℕ) → List ℕ → Option (List ℕ)
 relative None name = Some name
 relative (Some prefix) name =
     if starts_with nat_eq name (prefix ++ 47 ∷ []) then Some (drop (length prefix + 1) name) else None
 
--- bytes in order
+-- byte order: the first comes before the second
 abbrev pub is_before : List ℕ → List ℕ → Bool
 is_before a b = is_lt (slice_cmp nat_cmp a b)
 
@@ -94,29 +94,29 @@ clash_in tree prefix = first_path (is_clashing (paths_under tree prefix)) (paths
 -- ---- what a restore makes of a backup
 
 -- what a line of the hints file says of a path
-pub record Hinted : Type 0 where
+pub record PathHint : Type 0 where
   pub path : List ℕ
   pub hint : ℕ
   pub sparse : Bool
 
 -- a digit up to 5, a space, the kind, a space, and a path
-abbrev pub hint_of : List ℕ → Option Hinted
+abbrev pub hint_of : List ℕ → Option PathHint
 hint_of (d ∷ s ∷ k ∷ t ∷ p ∷ path) =
     if nat_lt 47 d && nat_lt d 54 && (s == 32) && ((k == 115) || (k == 98)) && (t == 32)
     then Some (record { path = p ∷ path; hint = d - 48; sparse = k == 115 }) else None
 hint_of line = None
 
 -- a path that has a line
-abbrev pub is_told : List ℕ → List Hinted → Bool
-is_told path hs = list_any (λ h. bytes_eq h.path path) hs
+abbrev pub has_line : List ℕ → List PathHint → Bool
+has_line path hs = list_any (λ h. bytes_eq h.path path) hs
 
 -- one more line, or its number where it is wrong
-abbrev pub add_hint : ℕ → Option Hinted → List Hinted → Result (List Hinted) ℕ
+abbrev pub add_hint : ℕ → Option PathHint → List PathHint → Result (List PathHint) ℕ
 add_hint n None hs = Err n
-add_hint n (Some h) hs = if is_told h.path hs then Err n else Ok (hs ++ h ∷ [])
+add_hint n (Some h) hs = if has_line h.path hs then Err n else Ok (hs ++ h ∷ [])
 
 -- the hints of lines that each end with a newline, or the first wrong line; the part of a line so far is kept
-abbrev pub hints_from : ℕ → List ℕ → List Hinted → List ℕ → Result (List Hinted) ℕ
+abbrev pub hints_from : ℕ → List ℕ → List PathHint → List ℕ → Result (List PathHint) ℕ
 hints_from n [] hs [] = Ok hs
 hints_from n (b ∷ line) hs [] = Err n
 hints_from n line hs (b ∷ bs) =
@@ -124,7 +124,7 @@ hints_from n line hs (b ∷ bs) =
     else hints_from n (line ++ b ∷ []) hs bs
 
 -- the lines of a hints file, or the number of the first wrong one
-unfoldable pub hints_of : List ℕ → Result (List Hinted) ℕ
+unfoldable pub hints_of : List ℕ → Result (List PathHint) ℕ
 hints_of bytes = hints_from 1 [] [] bytes
 
 -- the hints file itself
@@ -137,7 +137,7 @@ hints_bytes [] = []
 hints_bytes (e ∷ es) = if is_hints e then e.bytes else hints_bytes es
 
 -- what the lines say of a path; no line means no hint
-abbrev pub hint_for : List ℕ → List Hinted → Hinted
+abbrev pub hint_for : List ℕ → List PathHint → PathHint
 hint_for path [] = record { path = path; hint = 0; sparse = false }
 hint_for path (h ∷ hs) = if bytes_eq h.path path then h else hint_for path hs
 
@@ -147,7 +147,7 @@ with_prefix None path = path
 with_prefix (Some prefix) path = prefix ++ 47 ∷ path
 
 -- a host file as a restore makes it
-abbrev pub file_to_restore : Option (List ℕ) → List Hinted → HostEntry → RestoreFile
+abbrev pub file_to_restore : Option (List ℕ) → List PathHint → HostEntry → RestoreFile
 file_to_restore prefix hs e = record {
   name = with_prefix prefix e.path;
   hint = (hint_for e.path hs).hint;
@@ -162,7 +162,7 @@ files_to_restore es prefix = decoding.◌>>=◌ (hints_of (hints_bytes es)) (λ 
 -- the tree that a restore makes of these files from an empty one
 abbrev pub tree_of_files : Result (List RestoreFile) ℕ → Tree
 tree_of_files (Err line) = []
-tree_of_files (Ok files) = apply_all (planned_changes (ARestore files) [] 0) []
+tree_of_files (Ok files) = apply_all (planned_changes (RestoreFiles files) [] 0) []
 
 -- the tree that a restore makes of a backup
 abbrev pub tree_from_backup : List HostEntry → Option (List ℕ) → Tree

@@ -7,7 +7,11 @@ use Rattle.fs_model.specs.declared.zones.Owner.TheVariants.{Idle}
 use Rattle.fs_model.specs.declared.error.FsError.{FsError}
 use Rattle.fs_model.specs.declared.error.FsError.TheVariants.{NotFound, SequenceEnd, IdsEnd, NoSpace}
 use Rattle.fs_model.specs.ZonePolicy.{choose_zone}
-use Rattle.fs_model.specs.FsState.{FsState, ZoneDescriptor, TableRow}
+use Rattle.std.specs.Str.{is_utf8, chars}
+use lib.Utf8
+use Rattle.std.specs.Fmt.{digits}
+use Rattle.record_model.specs.Name.{is_name}
+use Rattle.fs_model.specs.FsState.{FsState, ZoneDescriptor, TableRow, working, zone_states}
 use Rattle.fs_model.specs.Trace.{Trace}
 use Rattle.fs_model.specs.LogSteps.{NoValue, roll}
 use Rattle.fs_model.specs.TreeSteps.{create, delete, mount_write}
@@ -21,7 +25,11 @@ use Rattle.fs_model.specs.FsState.{descriptor_at}
 use Rattle.fs_model.specs.StepExamples.{superblock, g}
 use Rattle.command_model.specs.TreeCommands.{planned_layout, TreeCommand, RestoreFile, planned_changes}
 use Rattle.log_model.specs.FileTree.{Tree, apply}
-use Rattle.command_model.specs.Backup.{RestoresBackup, backup_files, files_to_restore, hints_of, hints_path, clash_in}
+use Rattle.command_model.specs.Backup.{HostEntry, RestoresBackup, backup_files, files_to_restore, hints_of, hints_path, clash_in}
+use Rattle.command_model.specs.RestorePlan.{restore_plan}
+use Rattle.command_model.specs.RefusalTexts.{Cause}
+use Rattle.command_model.specs.ReportTexts.{list_text}
+use Rattle.command_model.specs.DumpText.{dump_text}
 use Rattle.fs_model.specs.StepExamples.{zone, formatted, locked, extents, written}
 
 -- one file of five bytes
@@ -29,14 +37,28 @@ abbrev hello : List RestoreFile
 hello = (record { name = codes "a.txt"; hint = 0; sparse = false; bytes = codes "hello" }) ∷ []
 
 -- its extent
-restored_hello : extents (planned_layout (TreeCommand.ARestore hello) 7 (locked formatted)).last.fs ≡ ((record { start = 24576; len = 5 }) ∷ []) ∷ []
+restored_hello : extents (planned_layout (TreeCommand.RestoreFiles hello) 7 (locked formatted)).last.fs ≡ ((record { start = 24576; len = 5 }) ∷ []) ∷ []
 unfolding planned_layout create mount_write roll commit recovery_point_fits take_zone note_extent extent_fits give_back mark_open mark_closed writers.sync writers.close choose_zone payload_of entry_bytes varint log_need change_need
 restored_hello = refl
 
 -- the blocks of the first zones: a log of five, and one block of data
-restored_zones : written (planned_layout (TreeCommand.ARestore hello) 7 (locked formatted)).last.fs ≡ 0 ∷ 5 ∷ 0 ∷ 1 ∷ 0 ∷ []
+restored_zones : written (planned_layout (TreeCommand.RestoreFiles hello) 7 (locked formatted)).last.fs ≡ 0 ∷ 5 ∷ 0 ∷ 1 ∷ 0 ∷ []
 unfolding planned_layout create mount_write roll commit recovery_point_fits take_zone note_extent extent_fits give_back mark_open mark_closed writers.sync writers.close choose_zone payload_of entry_bytes varint log_need change_need
 restored_zones = refl
+
+-- the state after it, at a time of its own
+abbrev hello_laid_out : FsState
+hello_laid_out = (planned_layout (TreeCommand.RestoreFiles hello) 1700000000 (locked formatted)).last.fs
+
+-- its list
+hello_listed : list_text (working hello_laid_out) None ≡ codes "           5" ++ 9 ∷ codes "1700000000" ++ 9 ∷ codes "a.txt" ++ 10 ∷ []
+unfolding planned_layout create mount_write roll commit recovery_point_fits take_zone note_extent extent_fits give_back mark_open mark_closed writers.sync writers.close choose_zone payload_of entry_bytes varint log_need change_need list_text digits
+hello_listed = refl
+
+-- its dump
+hello_dumped : dump_text (working hello_laid_out) (zone_states hello_laid_out) ≡ codes "{\"files\":[{\"extents\":[{\"len\":5,\"start\":24576}],\"hint\":0,\"id\":1,\"names\":[\"a.txt\"],\"size\":5,\"sparse\":false,\"time\":1700000000}],\"zones\":[{\"live\":0,\"sealed\":false,\"written\":5,\"zone\":1},{\"live\":1,\"sealed\":false,\"written\":1,\"zone\":3}]}" ++ 10 ∷ []
+unfolding planned_layout create mount_write roll commit recovery_point_fits take_zone note_extent extent_fits give_back mark_open mark_closed writers.sync writers.close choose_zone payload_of entry_bytes varint log_need change_need dump_text digits
+hello_dumped = refl
 
 -- a tree with two names of one file, saved and restored under a prefix
 abbrev example_tree : Tree
@@ -49,12 +71,55 @@ saved_and_restored : RestoresBackup example_tree (Some (codes "db"))
 unfolding backup_files files_to_restore hints_of planned_changes apply
 saved_and_restored = refl
 
+-- what a backup writes: the files in byte order, and their hints at the end
+saved_files : backup_files example_tree (Some (codes "db"))
+    ≡ (record { path = codes "a"; bytes = 1 ∷ 2 ∷ [] }) ∷ (record { path = codes "b"; bytes = [] }) ∷ (record { path = codes "c"; bytes = [] })
+    ∷ (record { path = hints_path; bytes = codes "2 s a" ++ 10 ∷ codes "0 b b" ++ 10 ∷ codes "0 b c" ++ 10 ∷ [] }) ∷ []
+unfolding backup_files
+saved_files = refl
+
+-- host files, of which one has no line in the hints file
+abbrev host_files : List HostEntry
+host_files =
+    (record { path = codes "a"; bytes = 7 ∷ [] }) ∷ (record { path = codes "b"; bytes = [] })
+    ∷ (record { path = hints_path; bytes = codes "3 s b" ++ 10 ∷ codes "1 b x" ++ 10 ∷ [] }) ∷ []
+
+-- without a line a file has no hint and isn't sparse; a line without a file has no effect
+files_restored : restore_plan [] (Some (codes "db")) host_files
+    ≡ Ok ((record { name = codes "db/a"; hint = 0; sparse = false; bytes = 7 ∷ [] }) ∷ (record { name = codes "db/b"; hint = 3; sparse = true; bytes = [] }) ∷ [])
+unfolding restore_plan files_to_restore hints_of is_name is_utf8 chars Utf8.encode
+files_restored = refl
+
+-- a host file whose path makes no name, and a hints file with a wrong line
+abbrev bad_files : List HostEntry
+bad_files = (record { path = codes "a//b"; bytes = [] }) ∷ (record { path = hints_path; bytes = codes "9 b a" ++ 10 ∷ [] }) ∷ []
+
+-- the name is told first
+bad_name_first : restore_plan [] None bad_files ≡ Err (Cause.BadName (codes "a//b"))
+unfolding restore_plan files_to_restore hints_of is_name is_utf8 chars Utf8.encode
+bad_name_first = refl
+
+-- and of names the prefix
+bad_prefix_first : restore_plan [] (Some (codes "..")) bad_files ≡ Err (Cause.BadName (codes ".."))
+unfolding restore_plan files_to_restore hints_of is_name is_utf8 chars Utf8.encode
+bad_prefix_first = refl
+
+-- then the hints file
+bad_hints_before_existing : restore_plan example_tree None ((record { path = codes "x"; bytes = [] }) ∷ (record { path = hints_path; bytes = codes "9 b a" ++ 10 ∷ [] }) ∷ []) ≡ Err (Cause.BadHints 1)
+unfolding restore_plan files_to_restore hints_of is_name is_utf8 chars Utf8.encode
+bad_hints_before_existing = refl
+
+-- then a file that is there
+existing_file : restore_plan example_tree None ((record { path = codes "x"; bytes = [] }) ∷ []) ≡ Err (Cause.NameExists (codes "x"))
+unfolding restore_plan files_to_restore hints_of is_name is_utf8 chars Utf8.encode
+existing_file = refl
+
 -- the states passed
 abbrev states_passed : Trace LockState NoValue → List LockState
 states_passed r = r.passed
 
 -- a name that isn't there is told before anything is written
-delete_absent : (planned_layout (TreeCommand.ADelete (codes "x")) 7 (locked formatted)) ≡ record { passed = states_passed (planned_layout (TreeCommand.ADelete (codes "x")) 7 (locked formatted)); last = locked formatted; answer = Err NotFound }
+delete_absent : (planned_layout (TreeCommand.DeleteName (codes "x")) 7 (locked formatted)) ≡ record { passed = states_passed (planned_layout (TreeCommand.DeleteName (codes "x")) 7 (locked formatted)); last = locked formatted; answer = Err NotFound }
 unfolding planned_layout create mount_write roll delete payload_of entry_bytes varint log_need change_need
 delete_absent = refl
 
@@ -77,12 +142,12 @@ abbrev at_end : FsState
 at_end = record formatted { rows = empty_row 1 (codes "a") ∷ []; greatest = 1; log = record (formatted.log) { greatest = 2 ^ 32 - 1 } }
 
 -- a deletion that would have to roll
-delete_at_end : answer_of (TreeCommand.ADelete (codes "a")) at_end ≡ Err SequenceEnd
+delete_at_end : answer_of (TreeCommand.DeleteName (codes "a")) at_end ≡ Err SequenceEnd
 unfolding planned_layout create mount_write roll delete commit recovery_point_fits take_zone note_extent extent_fits show give_back mark_open mark_closed writers.sync writers.close choose_zone payload_of entry_bytes varint log_need change_need
 delete_at_end = refl
 
 -- a name that isn't there is told first
-delete_absent_at_end : answer_of (TreeCommand.ADelete (codes "x")) at_end ≡ Err NotFound
+delete_absent_at_end : answer_of (TreeCommand.DeleteName (codes "x")) at_end ≡ Err NotFound
 unfolding planned_layout create mount_write roll delete commit recovery_point_fits take_zone note_extent extent_fits show give_back mark_open mark_closed writers.sync writers.close choose_zone payload_of entry_bytes varint log_need change_need
 delete_absent_at_end = refl
 
@@ -95,7 +160,7 @@ abbrev last_id : FsState
 last_id = record formatted { rows = empty_row (2 ^ 64 - 2) (codes "a") ∷ []; greatest = 2 ^ 64 - 2 }
 
 -- no id is left for one more file
-restore_past_ids : answer_of (TreeCommand.ARestore (one_file [])) last_id ≡ Err IdsEnd
+restore_past_ids : answer_of (TreeCommand.RestoreFiles (one_file [])) last_id ≡ Err IdsEnd
 unfolding planned_layout create mount_write roll delete commit recovery_point_fits take_zone note_extent extent_fits show give_back mark_open mark_closed writers.sync writers.close choose_zone payload_of entry_bytes varint log_need change_need
 restore_past_ids = refl
 
@@ -121,7 +186,7 @@ abbrev no_room : FsState
 no_room = record formatted { zones = zone 7 ∷ zone 0 ∷ zone 0 ∷ replicate 29 full; rows = full_rows 29 1; greatest = 29 }
 
 -- a byte more finds no zone
-restore_without_space : answer_of (TreeCommand.ARestore (one_file (7 ∷ []))) no_room ≡ Err NoSpace
+restore_without_space : answer_of (TreeCommand.RestoreFiles (one_file (7 ∷ []))) no_room ≡ Err NoSpace
 unfolding planned_layout create mount_write roll delete commit recovery_point_fits take_zone note_extent extent_fits show give_back mark_open mark_closed writers.sync writers.close choose_zone payload_of entry_bytes varint log_need change_need
 restore_without_space = refl
 
@@ -130,7 +195,7 @@ abbrev sizes : FsState → List ℕ
 sizes s = map (λ r. r.shown) s.rows
 
 -- the new name stands, with no bytes
-left_without_space : sizes (planned_layout (TreeCommand.ARestore (one_file (7 ∷ []))) 7 (locked no_room)).last.fs ≡ replicate 29 8192 ++ 0 ∷ []
+left_without_space : sizes (planned_layout (TreeCommand.RestoreFiles (one_file (7 ∷ []))) 7 (locked no_room)).last.fs ≡ replicate 29 8192 ++ 0 ∷ []
 unfolding planned_layout create mount_write roll delete commit recovery_point_fits take_zone note_extent extent_fits show give_back mark_open mark_closed writers.sync writers.close choose_zone payload_of entry_bytes varint log_need change_need
 left_without_space = refl
 
@@ -148,12 +213,12 @@ littered = record formatted {
 }
 
 -- the first byte finds no space; the collection is settled, and the byte goes into a zone that it emptied
-settled_restore : answer_of (TreeCommand.ARestore (one_file (7 ∷ []))) littered ≡ Ok tt
+settled_restore : answer_of (TreeCommand.RestoreFiles (one_file (7 ∷ []))) littered ≡ Ok tt
 unfolding planned_layout create mount_write roll delete commit recovery_point_fits take_zone note_extent extent_fits show give_back mark_open mark_closed writers.sync writers.close choose_zone payload_of entry_bytes varint log_need change_need settle round victim hold replace reset_victim
 settled_restore = refl
 
 -- the live blocks went into the empty zone
-settled_zones : map (λ n. (descriptor_at (planned_layout (TreeCommand.ARestore (one_file (7 ∷ []))) 7 (locked littered)).last.fs n).info.written) (25 ∷ 26 ∷ 27 ∷ []) ≡ 1 ∷ 0 ∷ 2 ∷ []
+settled_zones : map (λ n. (descriptor_at (planned_layout (TreeCommand.RestoreFiles (one_file (7 ∷ []))) 7 (locked littered)).last.fs n).info.written) (25 ∷ 26 ∷ 27 ∷ []) ≡ 1 ∷ 0 ∷ 2 ∷ []
 unfolding planned_layout create mount_write roll delete commit recovery_point_fits take_zone note_extent extent_fits show give_back mark_open mark_closed writers.sync writers.close choose_zone payload_of entry_bytes varint log_need change_need settle round victim hold replace reset_victim
 settled_zones = refl
 

@@ -1,16 +1,17 @@
 -- Command lines and scripts, computed.
-use Rattle.std.specs.Prelude.{◌≡◌, ℕ, ◌+◌, ◌*◌, ◌-◌, ◌^◌, true, false, List, [], ◌∷◌, ◌++◌, codes, Some, None, Ok, Err, refl}
+use Rattle.std.specs.Prelude.{◌≡◌, ℕ, ◌+◌, ◌*◌, ◌-◌, ◌^◌, true, false, List, [], ◌∷◌, ◌++◌, codes, map, Some, None, Ok, Err, refl}
 use Rattle.std.specs.Str.{is_utf8, chars}
 use lib.Utf8
 use Rattle.std.specs.Fmt.{digits}
+use Rattle.zone_image.specs.Image.{is_valid}
 use Rattle.record_model.specs.Name.{is_name}
 use Rattle.fs_model.specs.declared.operations.Op.TheVariants as ops
 use Rattle.command_model.specs.Options.{number_in}
-use Rattle.command_model.specs.CommandLine.{command}
-use Rattle.command_model.specs.CommandLine.Command.{MakeImage, MakeFs, ListFiles}
+use Rattle.command_model.specs.CommandLine.{command, image_path, bad_name_of}
+use Rattle.command_model.specs.CommandLine.Command.{MakeImage, MakeFs, ListFiles, Backup, RenameFile}
 use Rattle.command_model.specs.LoadLine.{Lines, load_command, script_path, load_image}
 use Rattle.command_model.specs.Script.{script}
-use Rattle.command_model.specs.GeneratedScript.{file_lines}
+use Rattle.command_model.specs.GeneratedScript.{file_lines, lines_of_files}
 
 -- numbers: zero, the greatest, one above it, a leading zero, none
 zero_read : number_in (codes "0") ≡ Some 0
@@ -93,6 +94,25 @@ mkimage_read : command (codes "mkimage" ∷ codes "--image=i" ∷ codes "--block
 unfolding command
 mkimage_read = refl
 
+-- a block of that size is none
+wrong_block : is_valid (record { block = 1024; zone_blocks = 16; capacity = 16; zones = 32; active_limit = 6 }) ≡ false
+wrong_block = refl
+
+-- the image is told where the words are a command
+image_told : map image_path ((codes "df" ∷ codes "--image=i" ∷ []) ∷ (codes "df" ∷ []) ∷ []) ≡ Some (codes "i") ∷ None ∷ []
+unfolding command
+image_told = refl
+
+-- the source of a rename is judged before its target
+bad_source_first : bad_name_of (RenameFile (codes "i") (codes "a/") (codes "/b")) ≡ Some (codes "a/")
+unfolding bad_name_of is_name is_utf8 chars Utf8.encode
+bad_source_first = refl
+
+-- a host directory is no name of the file system
+any_directory : bad_name_of (Backup (codes "i") (codes "/tmp//x/") None) ≡ None
+unfolding bad_name_of
+any_directory = refl
+
 -- a command that isn't there
 unknown_command : command (codes "check" ∷ codes "--image=i" ∷ []) ≡ None
 unfolding command
@@ -115,7 +135,7 @@ load_both = refl
 
 -- ---- scripts
 
--- a newline behind a text
+-- texts, each with a newline at its end
 abbrev pub lines : List (List ℕ) → List ℕ
 lines [] = []
 lines (t ∷ ts) = t ++ 10 ∷ lines ts
@@ -168,3 +188,10 @@ first_wrong = refl
 made_lines : file_lines 6 (1 + 2 * 2 ^ 16 + 9 * 2 ^ 24) ≡ lines (codes "1 open g6 3 s" ∷ codes "1 append 10 6" ∷ codes "1 append 10 6" ∷ codes "1 append 10 6" ∷ codes "1 sync" ∷ codes "1 close" ∷ codes "1 delete g2" ∷ [])
 unfolding digits
 made_lines = refl
+
+-- the lines of the first two files of seed 7
+seed_seven : lines_of_files 2 1 7 ≡ lines (
+    codes "2 open g1 3 b" ∷ codes "2 append 1114 1" ∷ codes "2 append 1114 1" ∷ codes "2 append 1114 1" ∷ codes "2 sync" ∷ codes "2 close"
+    ∷ codes "1 open g2 0 b" ∷ codes "1 append 2037 2" ∷ codes "1 sync" ∷ codes "1 close" ∷ [])
+unfolding digits
+seed_seven = refl

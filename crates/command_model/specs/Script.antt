@@ -56,7 +56,7 @@ append_of (c ∷ b ∷ []) = do
   Some (ops.Append count byte)
 append_of _ = None
 
--- the operation of a word and those behind it
+-- the operation of a word and those after it
 abbrev pub op_of : Word → List Word → Option Op
 op_of w ws =
     if bytes_eq w (codes "open") then open_of ws
@@ -83,7 +83,7 @@ abbrev pub with_line : ℕ → List Line → Option Line → Result (List Line) 
 with_line n seen None = Err n
 with_line n seen (Some line) = Ok (seen ++ line ∷ [])
 
--- goes on behind a line that is right
+-- goes on after a line that is right
 abbrev pub then_lines : Result (List Line) ℕ → (List Line → Result (List Line) ℕ) → Result (List Line) ℕ
 then_lines (Err n) f = Err n
 then_lines (Ok seen) f = f seen

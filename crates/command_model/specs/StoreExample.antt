@@ -36,7 +36,7 @@ store = table_files 20 1
 
 -- the state in the end
 abbrev laid_out : FsState
-laid_out = (planned_layout (TreeCommand.ARestore store) 7 (locked (formatted_on shape))).last.fs
+laid_out = (planned_layout (TreeCommand.RestoreFiles store) 7 (locked (formatted_on shape))).last.fs
 
 -- the blocks of the data zones: lives of one length stand together
 store_zones : map (λ n. (descriptor_at laid_out n).info.written) (3 ∷ 4 ∷ 5 ∷ 6 ∷ 7 ∷ 8 ∷ 9 ∷ 10 ∷ 11 ∷ []) ≡ 8 ∷ 5 ∷ 5 ∷ 1 ∷ 1 ∷ 1 ∷ 1 ∷ 2 ∷ 0 ∷ []

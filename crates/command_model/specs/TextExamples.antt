@@ -1,5 +1,5 @@
 -- Printed texts, computed.
-use Rattle.std.specs.Prelude.{◌≡◌, ℕ, ◌-◌, ◌^◌, false, List, [], ◌∷◌, ◌++◌, codes, replicate, Some, None, Result, Ok, Err, refl}
+use Rattle.std.specs.Prelude.{◌≡◌, ℕ, ◌-◌, ◌^◌, true, false, List, [], ◌∷◌, ◌++◌, codes, flat_map, map, replicate, Some, None, Result, Ok, Err, refl}
 use Rattle.std.specs.Str.{is_utf8, chars}
 use lib.Utf8
 use Rattle.std.specs.Fmt.{digits}
@@ -16,9 +16,11 @@ use Rattle.fs_model.specs.ZonePolicy.{space}
 use Rattle.fs_model.specs.StepExamples.{g}
 use Rattle.command_model.specs.ReportTexts.{list_text, df_text, info_text, made_image_text, made_fs_text}
 use Rattle.command_model.specs.DumpText.{dump_text, json_string}
-use Rattle.command_model.specs.RefusalTexts.{Cause, refusal_text, status_of}
+use Rattle.command_model.specs.RefusalTexts.{Cause, damage_text, refusal_text, status_of}
+use Rattle.fs_model.specs.declared.error.FsError.TheVariants.{NotFound, DevFault, NoMemory, Stopped}
+use Rattle.fs_model.specs.declared.operations.Reply.TheVariants as replies
 use Rattle.command_model.specs.Script.{Line, script}
-use Rattle.command_model.specs.LoadSummary.{summary_text}
+use Rattle.command_model.specs.LoadSummary.{summary_text, load_status}
 use Rattle.log_model.specs.FileTree.{Tree}
 use Rattle.fs_model.specs.LegalExamples.{one_job}
 use Rattle.command_model.specs.LineExamples.{six_lines, lines}
@@ -31,7 +33,7 @@ one_file = (record { id = 1; size = 5; hint = 0; time = 1700000000; active = 2 ^
 abbrev zone : ℕ → ℕ → ℕ → ZoneState
 zone written live live_bytes = record { info = record { written = written; sealed = false }; owner = Idle; hint = 0; live = live; live_bytes = live_bytes }
 
--- the zones behind it
+-- the zones of its image
 abbrev its_zones : List ZoneState
 its_zones = zone 0 0 0 ∷ zone 5 0 0 ∷ zone 0 0 0 ∷ zone 1 1 5 ∷ replicate 28 (zone 0 0 0)
 
@@ -107,15 +109,51 @@ differs_text : refusal_text (codes "zenfs") (Cause.NoMount (refusals.Differs 0 5
 unfolding digits refusal_text
 differs_text = refl
 
--- a table without room
-full_text : refusal_text (codes "zenfs") (Cause.MetaFull 9 8) ≡ lines (codes "zenfs: metadata full: 9 of 8 blocks" ∷ [])
-unfolding digits refusal_text
-full_text = refl
+-- every other refusal of the utility
+abbrev other_causes : List Cause
+other_causes =
+    Cause.Words ∷ Cause.DeviceFault ∷ Cause.HostFault ∷ Cause.OutputFault ∷ Cause.OutOfMemory
+    ∷ Cause.NotAnImage ∷ Cause.ImageExists ∷ Cause.BadGeometry ∷ Cause.FsExists 0 ∷ Cause.NoMount refusals.NoFileSystem
+    ∷ Cause.BadName (codes "a//b") ∷ Cause.Clash (codes "a") ∷ Cause.BadHints 1
+    ∷ Cause.NotFound (codes "x") ∷ Cause.NameExists (codes "c")
+    ∷ Cause.IdsEnd ∷ Cause.SequenceEnd ∷ Cause.MetaFull 9 8 ∷ Cause.NoSpace ∷ []
 
--- the jobs of a load
-jobs_text : refusal_text (codes "zenload") (Cause.TooManyJobs 2 1) ≡ lines (codes "zenload: 2 jobs, at most 1" ∷ [])
+-- their texts
+other_texts : flat_map (refusal_text (codes "zenfs")) other_causes ≡ lines (
+    codes "zenfs: bad command line" ∷ codes "zenfs: device fault" ∷ codes "zenfs: host fault" ∷ codes "zenfs: output fault" ∷ codes "zenfs: out of memory"
+    ∷ codes "zenfs: not a zoned image" ∷ codes "zenfs: image exists" ∷ codes "zenfs: bad geometry" ∷ codes "zenfs: file system exists in zone 0" ∷ codes "zenfs: no file system"
+    ∷ codes "zenfs: a//b: bad name" ∷ codes "zenfs: a: clashes in the backup" ∷ codes "zenfs: hints line 1"
+    ∷ codes "zenfs: x: not found" ∷ codes "zenfs: c: exists"
+    ∷ codes "zenfs: file ids at their end" ∷ codes "zenfs: sequence at its end" ∷ codes "zenfs: metadata full: 9 of 8 blocks" ∷ codes "zenfs: no space" ∷ [])
 unfolding digits refusal_text
-jobs_text = refl
+other_texts = refl
+
+-- their exit statuses
+other_statuses : map status_of other_causes ≡ 2 ∷ 3 ∷ 3 ∷ 3 ∷ 4 ∷ replicate 14 1
+unfolding status_of
+other_statuses = refl
+
+-- the refusals of the load program alone
+load_texts : flat_map (refusal_text (codes "zenload")) (Cause.ScriptFault ∷ Cause.ScriptTooLong ∷ Cause.BadScript 2 ∷ Cause.TooManyJobs 2 1 ∷ [])
+    ≡ lines (codes "zenload: script fault" ∷ codes "zenload: script too long" ∷ codes "zenload: script line 2" ∷ codes "zenload: 2 jobs, at most 1" ∷ [])
+unfolding digits refusal_text
+load_texts = refl
+
+-- their exit statuses
+load_statuses : map status_of (Cause.ScriptFault ∷ Cause.ScriptTooLong ∷ Cause.BadScript 2 ∷ Cause.TooManyJobs 2 1 ∷ []) ≡ 3 ∷ 1 ∷ 1 ∷ 1 ∷ []
+unfolding status_of
+load_statuses = refl
+
+-- every cause of damage, with its place
+damage_texts : map damage_text (
+    why.NoLength ∷ why.Text 4 ∷ why.Twin 4 ∷ why.Rule 8
+    ∷ why.Decode (record { at = 4; why = fault.Short }) ∷ why.Decode (record { at = 62; why = fault.Twice 3 })
+    ∷ why.Decode (record { at = 5; why = fault.Missing 9 }) ∷ why.Decode (record { at = 5; why = fault.Range }) ∷ [])
+    ≡ codes "no length" ∷ codes "text at 4" ∷ codes "two logs of sequence 4" ∷ codes "rule 8"
+    ∷ codes "record short at 4" ∷ codes "record field 3 twice at 62"
+    ∷ codes "record field 9 missing at 5" ∷ codes "record range at 5" ∷ []
+unfolding digits
+damage_texts = refl
 
 -- the lines of a script that is right
 abbrev right_lines : Result (List Line) ℕ → List Line
@@ -130,3 +168,28 @@ five_bytes = (record { id = 1; names = codes "a" ∷ []; bytes = replicate 5 104
 one_summary : summary_text (right_lines (script six_lines)) one_job five_bytes ≡ lines (codes "job 1: 6 lines, 1 refused, 5 bytes read" ∷ codes "files 1, bytes 5" ∷ [])
 unfolding digits summary_text script is_name is_utf8 chars Utf8.encode
 one_summary = refl
+
+-- a job without lines has a line of zeros
+job_without_lines : summary_text (right_lines (script (lines (codes "2 sync" ∷ [])))) [] [] ≡ lines (
+    codes "job 1: 0 lines, 0 refused, 0 bytes read" ∷ codes "job 2: 1 lines, 0 refused, 0 bytes read" ∷ codes "files 0, bytes 0" ∷ [])
+unfolding digits summary_text script
+job_without_lines = refl
+
+-- a refusal alone is no failure of a load; a device fault comes before want of memory, but that of the close before all
+loads_status : load_status false (replies.Refused NotFound ∷ []) ∷ load_status false (replies.NoEntry ∷ []) ∷ load_status false (replies.Refused NoMemory ∷ [])
+    ∷ load_status false (replies.NoEntry ∷ replies.Refused DevFault ∷ replies.Refused Stopped ∷ []) ∷ load_status true (replies.Refused DevFault ∷ []) ∷ []
+    ≡ 0 ∷ 4 ∷ 4 ∷ 3 ∷ 4 ∷ []
+unfolding load_status
+loads_status = refl
+
+-- two sealed zones of live bytes, and one byte: nothing is reclaimable
+two_files_df : df_text g (record { free = 431; used = 16385; reclaimable = 0; free_percent = 92 })
+    ≡ lines (codes "Free: 220672" ∷ codes "Used: 16385" ∷ codes "Reclaimable: 0" ∷ codes "Space amplification: 0%" ∷ [])
+unfolding digits df_text
+two_files_df = refl
+
+-- what is reclaimable, in percent of what is used
+amplified_df : df_text g (record { free = 448; used = 100; reclaimable = 8092; free_percent = 96 })
+    ≡ lines (codes "Free: 229376" ∷ codes "Used: 100" ∷ codes "Reclaimable: 8092" ∷ codes "Space amplification: 8092%" ∷ [])
+unfolding digits df_text
+amplified_df = refl

@@ -5,7 +5,8 @@ use Rattle.record_model.specs.Encoding.{payload_of, entry_bytes}
 use Rattle.record_model.specs.declared.types.Extent.{Extent}
 use Rattle.fs_model.specs.declared.zones.Owner.TheVariants.{Idle, Collector}
 use Rattle.fs_model.specs.VictimPolicy.{victim}
-use Rattle.fs_model.specs.FsState.{ZoneDescriptor, TableRow, descriptor_at, on_descriptor}
+use Rattle.fs_model.specs.ZonePolicy.{free_percent}
+use Rattle.fs_model.specs.FsState.{ZoneDescriptor, TableRow, descriptor_at, on_descriptor, zone_states}
 use Rattle.fs_model.specs.Trace.{◌>>◌}
 use Rattle.fs_model.specs.LogSteps.{roll}
 use Rattle.fs_model.specs.FileSteps.{commit, recovery_point_fits, take_zone, note_extent, extent_fits, show, give_back, mark_open, mark_closed}
@@ -57,6 +58,11 @@ collected_zone : marks (four_rounds crowded).last ≡ (10, false) ∷ (0, false)
 unfolding round victim file_steps.hold file_steps.replace file_steps.reset_victim file_steps.give_back payload_of entry_bytes varint roll
 collected_zone = refl
 
+-- the first round begins it
+first_round : (round crowded).answer ≡ Ok Round.Begun
+unfolding round victim file_steps.hold file_steps.replace file_steps.reset_victim file_steps.give_back payload_of entry_bytes varint roll
+first_round = refl
+
 -- the fourth round retires the victim
 collected_answer : (four_rounds crowded).answer ≡ Ok Round.Retired
 unfolding round victim file_steps.hold file_steps.replace file_steps.reset_victim file_steps.give_back payload_of entry_bytes varint roll
@@ -82,7 +88,12 @@ dropped : (deleted_between crowded).answer ≡ Ok Round.Dropped
 unfolding round victim file_steps.hold file_steps.replace file_steps.reset_victim file_steps.give_back payload_of entry_bytes varint roll
 dropped = refl
 
--- what two calls find: the answer, and the plan that is left
+-- the victim is retired all the same, and the copy is left without a file
+dropped_zones : marks ((deleted_between >> round) crowded).last ≡ (9, false) ∷ (0, false) ∷ (1, false) ∷ []
+unfolding round victim file_steps.hold file_steps.replace file_steps.reset_victim file_steps.give_back payload_of entry_bytes varint roll
+dropped_zones = refl
+
+-- the plan that is left
 abbrev plan_after : Collecting → Option Plan
 plan_after s = collector.plan_of s.fs
 
@@ -90,6 +101,11 @@ plan_after s = collector.plan_of s.fs
 no_more : plan_after (four_rounds crowded).last ≡ None
 unfolding round settle victim file_steps.hold file_steps.replace file_steps.reset_victim file_steps.give_back payload_of entry_bytes varint roll
 no_more = refl
+
+-- so much is free then
+percent_after : free_percent g (zone_states (four_rounds crowded).last.fs) ≡ 20
+unfolding round victim file_steps.hold file_steps.replace file_steps.reset_victim file_steps.give_back payload_of entry_bytes varint roll
+percent_after = refl
 
 -- settling retires one victim
 settled_one : (settle crowded).answer ≡ Ok 1

@@ -19,7 +19,7 @@ use Rattle.fs_model.specs.declared.error.FsError.TheVariants.{Gone, InUse, Seque
 use Rattle.fs_model.specs.ZonePolicy.{choose_zone, is_idle_owner}
 use Rattle.fs_model.specs.FsState.{FsState, TableRow, working_of, descriptor_at, zone_states, collects, room_in, next_address, row_of, on_row, working_entry}
 use Rattle.fs_model.specs.Trace.{done, refuse, step, ◌>>=◌, ◌>>◌, from_state, refuse_if, when}
-use Rattle.fs_model.specs.LogSteps.{FsAction, NoValue, finish_zone, reset_zone, set_owner, open_zone, set_row, at_sequence_end, must_roll, add_record, refuse_sequence, block_of, refuse_above, reset_garbage}
+use Rattle.fs_model.specs.LogSteps.{FsAction, NoValue, finish_zone, reset_zone, set_owner, open_zone, set_row, at_sequence_end, must_roll, add_record, refuse_sequence, block_of, refuse_above, reset_dead_zones}
 use Rattle.fs_model.specs.TreeSteps.{entry_update}
 
 -- goes on with a row, or is refused where the file is gone
@@ -31,7 +31,7 @@ or_gone f (Some r) = f r
 abbrev pub with_row : {A : Type 0} → ℕ → (TableRow → FsAction A) → FsAction A
 with_row id f = from_state (λ s. or_gone f (row_of id s.rows))
 
--- the bytes of a commit that nobody saw before change the time
+-- a commit that shows more bytes sets the time
 abbrev pub commit_time : ℕ → TableRow → ℕ
 commit_time now r = if nat_lt r.shown (r.entry.size + size_of r.unrecorded) then now else r.entry.time
 
@@ -53,7 +53,7 @@ commit_blocks blocks now r =
     refuse_sequence blocks
     >> add_record blocks
     >> set_row r.entry.id (committed now)
-    >> reset_garbage
+    >> reset_dead_zones
 
 -- records the extents that aren't recorded yet, and shows their bytes
 unfoldable pub commit : ℕ → ℕ → FsAction NoValue
@@ -109,7 +109,7 @@ take_zone id = with_row id (λ r. from_state (λ s.
     >> (take_chosen id r.entry.hint (choose_zone s.geometry (collects s) (zone_states s) r.entry.hint) >>= (λ zone.
     record_recovery_point r zone >> done zone))))
 
--- the last of the extents made longer, or the new one behind them
+-- the last of the extents made longer, or the new one after them
 abbrev pub extents_with : List Extent → Extent → List Extent
 extents_with [] x = x ∷ []
 extents_with (y ∷ []) x = if y.start + y.len == x.start then (record y { len = y.len + x.len }) ∷ [] else y ∷ x ∷ []
@@ -173,11 +173,11 @@ replace_by blocks id ms = refuse_sequence blocks >> add_record blocks >> set_row
 unfoldable pub replace : ℕ → List Move → FsAction NoValue
 replace id ms = with_row id (λ r. from_state (λ s. replace_by (blocks_of_record (block_of s) (records.Replace (moved ms r).entry)) id ms))
 
--- what is done with the collector's zone first
-abbrev pub put_aside : Before → FsAction NoValue
-put_aside befores.Nothing = done tt
-put_aside (befores.Finish own) = finish_zone own >> set_owner Idle own
-put_aside (befores.Release own) = set_owner Idle own
+-- what is done first with the zone that the collector holds
+abbrev pub release_previous : Before → FsAction NoValue
+release_previous befores.Nothing = done tt
+release_previous (befores.Finish own) = finish_zone own >> set_owner Idle own
+release_previous (befores.Release own) = set_owner Idle own
 
 -- a zone that the collector holds already isn't opened again, so it keeps its hint
 abbrev pub open_destination : ℕ → ℕ → FsAction NoValue
@@ -185,7 +185,7 @@ open_destination hint zone = from_state (λ s. when (is_idle_owner (descriptor_a
 
 -- pins a plan: the collector's zone is put aside, the destination opened, the victim marked
 unfoldable pub hold : Plan → FsAction NoValue
-hold p = put_aside p.before >> from_state (λ s.
+hold p = release_previous p.before >> from_state (λ s.
     open_destination (descriptor_at s p.victim).hint p.dest >> set_owner Victim p.victim)
 
 -- empties the victim, which nobody holds then

@@ -22,7 +22,7 @@ pub record ZoneDescriptor : Type 0 where
   pub owner : Owner
   pub hint : ℕ
 
--- a file: its recorded entry, its extents that aren't recorded yet, and how many of its bytes are shown
+-- a file: its recorded entry, its extents that aren't recorded yet, and how many of its bytes are shown to readers
 pub record TableRow : Type 0 where
   pub entry : FileEntry
   pub unrecorded : List Extent
@@ -45,11 +45,11 @@ working_entry r = record (r.entry) { extents = r.entry.extents ++ r.unrecorded; 
 abbrev pub working_of : List TableRow → Table
 working_of rows = map working_entry rows
 
--- the in-memory table
+-- the table in memory
 abbrev pub working : FsState → Table
 working s = working_of s.rows
 
--- the table that the log has
+-- the table that a snapshot has: of each file what is recorded
 abbrev pub recorded : FsState → Table
 recorded s = map (λ r. r.entry) s.rows
 

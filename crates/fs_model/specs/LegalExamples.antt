@@ -1,12 +1,12 @@
 -- Legal histories, computed.
 use Rattle.std.specs.Prelude.{◌≡◌, ℕ, true, false, List, [], ◌∷◌, codes, replicate, map, refl}
-use Rattle.std.proofs.Common.{inl, arith}
+use Rattle.std.proofs.Common.{inl, sym, arith}
 use Rattle.std.proofs.lemmas.Bool.{false≢true}
 use Rattle.record_model.specs.Numbers.{varint}
 use Rattle.crc32c_core.specs.Checksum.{crc32c}
 use Rattle.record_model.specs.Encoding.{payload_of, entry_bytes}
 use Rattle.log_model.specs.Headroom.{log_need, change_need}
-use Rattle.log_model.specs.FileTree.{apply}
+use Rattle.log_model.specs.FileTree.{Tree, apply}
 use Rattle.fs_model.specs.declared.error.FsError.TheVariants.{NotFound}
 use Rattle.fs_model.specs.declared.operations.Op.{Op}
 use Rattle.fs_model.specs.declared.operations.Op.TheVariants as ops
@@ -22,6 +22,7 @@ use Rattle.fs_model.specs.FileSteps.{commit, recovery_point_fits, take_zone, not
 use Rattle.fs_model.specs.WriterSteps as writers
 use Rattle.fs_model.specs.Turn.{LockState, turn}
 use Rattle.fs_model.specs.History.{initial_history, after_entries}
+use Rattle.fs_model.specs.HistoryCover.{acknowledged_by, tree_after}
 use Rattle.fs_model.specs.LegalHistory.{AreLegal}
 use Rattle.fs_model.specs.Execution.{IsExecution, IsLegalHistory}
 use Rattle.fs_model.specs.StepExamples.{formatted, locked}
@@ -100,17 +101,17 @@ never h = absurd (false≢true h)
 one_job_legal : AreLegal (initial_history []) one_job
 unfolding apply
 one_job_legal = (
-  (record { named = refl; last_change = never; unsure_change = never; taken = refl; changes = (refl, refl); synced = tt; read = tt }),
+  (record { expected = refl; last_change = never; unsure_change = never; taken = refl; changes = (refl, refl); synced = tt; read = tt }),
   (
-    (record { named = refl; last_change = never; unsure_change = never; taken = refl; changes = (tt, refl); synced = tt; read = tt }),
+    (record { expected = refl; last_change = never; unsure_change = never; taken = refl; changes = (tt, refl); synced = tt; read = tt }),
     (
-      (record { named = refl; last_change = never; unsure_change = never; taken = refl; changes = ((refl, omega arith, omega arith, tt), refl); synced = (λ _. refl); read = tt }),
+      (record { expected = refl; last_change = never; unsure_change = never; taken = refl; changes = ((refl, omega arith, omega arith, tt), refl); synced = (λ _. refl); read = tt }),
       (
-        (record { named = refl; last_change = never; unsure_change = never; taken = refl; changes = (refl, refl); synced = tt; read = ((refl, refl), λ h. cc) }),
+        (record { expected = refl; last_change = never; unsure_change = never; taken = refl; changes = (refl, refl); synced = tt; read = ((refl, refl), λ h. cc) }),
         (
-          (record { named = refl; last_change = never; unsure_change = never; taken = refl; changes = (tt, refl); synced = (λ _. refl); read = tt }),
+          (record { expected = refl; last_change = never; unsure_change = never; taken = refl; changes = (tt, refl); synced = (λ _. refl); read = tt }),
           (
-            (record { named = (inl refl); last_change = never; unsure_change = never; taken = refl; changes = (refl, refl); synced = tt; read = tt }),
+            (record { expected = (inl refl); last_change = never; unsure_change = never; taken = refl; changes = (refl, refl); synced = tt; read = tt }),
             tt,
           ),
         ),
@@ -152,6 +153,19 @@ one_job_runs = (
 one_job_history : IsLegalHistory [] start one_job
 one_job_history = (one_job_legal, opened ∷ appended ∷ synced ∷ read_back ∷ closed ∷ ended ∷ [], one_job_runs)
 
+-- its changes: a file, and five bytes of it
+one_job_acknowledged : acknowledged_by 0 one_job ≡ 2
+one_job_acknowledged = refl
+
+-- the bytes of the files of a tree
+abbrev bytes_of_files : Tree → List (List ℕ)
+bytes_of_files tree = map (λ f. f.bytes) tree
+
+-- after none of them there is no file, after one an empty file, and after both it has its bytes
+one_job_prefixes : map (λ made. bytes_of_files (tree_after made [] one_job)) (0 ∷ 1 ∷ 2 ∷ []) ≡ [] ∷ ([] ∷ []) ∷ (replicate 5 104 ∷ []) ∷ []
+unfolding apply
+one_job_prefixes = refl
+
 -- ---- two jobs, of which the second renames what the first makes
 
 -- the rename
@@ -169,11 +183,11 @@ rename_last =
 rename_last_legal : AreLegal (initial_history []) rename_last
 unfolding apply
 rename_last_legal = (
-  (record { named = refl; last_change = never; unsure_change = never; taken = refl; changes = (refl, refl); synced = tt; read = tt }),
+  (record { expected = refl; last_change = never; unsure_change = never; taken = refl; changes = (refl, refl); synced = tt; read = tt }),
   (
-    (record { named = refl; last_change = never; unsure_change = never; taken = refl; changes = (tt, refl); synced = (λ _. refl); read = tt }),
+    (record { expected = refl; last_change = never; unsure_change = never; taken = refl; changes = (tt, refl); synced = (λ _. refl); read = tt }),
     (
-      (record { named = refl; last_change = never; unsure_change = never; taken = refl; changes = (refl, refl); synced = tt; read = tt }),
+      (record { expected = refl; last_change = never; unsure_change = never; taken = refl; changes = (refl, refl); synced = tt; read = tt }),
       tt,
     ),
   ),
@@ -199,11 +213,11 @@ rename_first =
 rename_first_legal : AreLegal (initial_history []) rename_first
 unfolding apply
 rename_first_legal = (
-  (record { named = (inl refl); last_change = never; unsure_change = never; taken = refl; changes = (refl, refl); synced = tt; read = tt }),
+  (record { expected = (inl refl); last_change = never; unsure_change = never; taken = refl; changes = (refl, refl); synced = tt; read = tt }),
   (
-    (record { named = refl; last_change = never; unsure_change = never; taken = refl; changes = (refl, refl); synced = tt; read = tt }),
+    (record { expected = refl; last_change = never; unsure_change = never; taken = refl; changes = (refl, refl); synced = tt; read = tt }),
     (
-      (record { named = refl; last_change = never; unsure_change = never; taken = refl; changes = (tt, refl); synced = (λ _. refl); read = tt }),
+      (record { expected = refl; last_change = never; unsure_change = never; taken = refl; changes = (tt, refl); synced = (λ _. refl); read = tt }),
       tt,
     ),
   ),
@@ -239,3 +253,29 @@ rename_first_runs = (
     ((refl, refl), ((turn 1 ops.Close 7 (next 1 open_a (next 2 rename_a start))).passed, [], refl, refl), refl),
   ),
 )
+
+-- ---- histories that aren't legal
+
+-- a file is made, and five bytes are appended
+abbrev written_five : List Entry → List Entry
+written_five es = entry 1 open_a replies.Done (made.Create 1 ∷ []) 0 ∷ entry 1 five replies.Done [] 5 ∷ es
+
+-- a sync that answers Done shows all bytes
+dropped_sync : AreLegal (initial_history []) (written_five (entry 1 ops.Sync replies.Done [] 0 ∷ [])) → ⊥
+unfolding apply
+dropped_sync h = omega (arith, h.1.1.0.synced refl)
+
+-- a read finds no bytes that weren't synced
+invented_read : AreLegal (initial_history []) (written_five (entry 1 (ops.Read a) five_read [] 0 ∷ [])) → ⊥
+unfolding apply
+invented_read h = omega (arith, h.1.1.0.read.0.0)
+
+-- an append that answers Done takes all its bytes
+short_append : AreLegal (initial_history []) (entry 1 open_a replies.Done (made.Create 1 ∷ []) 0 ∷ entry 1 five replies.Done [] 4 ∷ []) → ⊥
+unfolding apply
+short_append h = omega (arith, h.1.0.taken)
+
+-- a name that is there is found
+refused_delete : AreLegal (initial_history []) (entry 1 open_a replies.Done (made.Create 1 ∷ []) 0 ∷ entry 2 (ops.Delete a) (replies.Refused NotFound) [] 0 ∷ []) → ⊥
+unfolding apply
+refused_delete h = false≢true (sym h.1.0.expected)

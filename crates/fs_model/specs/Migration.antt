@@ -47,19 +47,19 @@ abbrev pub begin : Plan → CollectorAction NoValue
 begin p = on_fs (file_steps.hold p) >> set_migration (Some (record { victim = p.victim; dest = p.dest; id = None; moves = []; copied = 0 }))
 
 -- the extents of a file that lie in a zone and haven't been copied
-abbrev pub left_in : FsState → ℕ → List Move → TableRow → List Extent
-left_in s zone ms r =
+abbrev pub uncopied_in : FsState → ℕ → List Move → TableRow → List Extent
+uncopied_in s zone ms r =
     filter (λ x. (zone_of s.geometry x.start == zone) && not (list_any (λ m. m.from == x.start) ms)) (working_entry r).extents
 
 -- the next extent of a file that isn't copied
-abbrev pub first_left : FsState → ℕ → List Move → Option TableRow → Option Extent
-first_left s zone ms None = None
-first_left s zone ms (Some r) = first (left_in s zone ms r)
+abbrev pub first_uncopied : FsState → ℕ → List Move → Option TableRow → Option Extent
+first_uncopied s zone ms None = None
+first_uncopied s zone ms (Some r) = first (uncopied_in s zone ms r)
 
 -- the file of the least id that has extents in the zone
 abbrev pub next_file : FsState → ℕ → List TableRow → Option ℕ
 next_file s zone [] = None
-next_file s zone (r ∷ rs) = if nat_lt 0 (length (left_in s zone [] r)) then Some r.entry.id else next_file s zone rs
+next_file s zone (r ∷ rs) = if nat_lt 0 (length (uncopied_in s zone [] r)) then Some r.entry.id else next_file s zone rs
 
 -- what a copying call answers
 pub data Copied : Type 0 where
@@ -109,25 +109,25 @@ copy_or_ready m id (Some x) = copy_extent m id x
 -- the file at hand is kept while blocks of it are copied, even where it is gone
 abbrev pub copy_file : MigrationState → Option ℕ → CollectorAction Copied
 copy_file m None = done Done
-copy_file m (Some id) = from_state (λ s. copy_or_ready m id (first_left s.fs m.victim m.moves (row_of id s.fs.rows)))
+copy_file m (Some id) = from_state (λ s. copy_or_ready m id (first_uncopied s.fs m.victim m.moves (row_of id s.fs.rows)))
 
 -- some of the file at hand is copied
-abbrev pub has_begun : MigrationState → Bool
-has_begun m = nat_lt 0 (length m.moves) || nat_lt 0 m.copied
+abbrev pub has_copied : MigrationState → Bool
+has_copied m = nat_lt 0 (length m.moves) || nat_lt 0 m.copied
 
 -- copies the next extent
 abbrev pub copy_next : MigrationState → CollectorAction Copied
-copy_next m = from_state (λ s. copy_file m (if has_begun m then m.id else next_file s.fs m.victim s.fs.rows))
+copy_next m = from_state (λ s. copy_file m (if has_copied m then m.id else next_file s.fs m.victim s.fs.rows))
 
--- a migration with no file at hand
-abbrev pub between : MigrationState → MigrationState
-between m = record m { id = None; moves = []; copied = 0 }
+-- the migration with no file at hand
+abbrev pub without_file : MigrationState → MigrationState
+without_file m = record m { id = None; moves = []; copied = 0 }
 
 -- whether the file was there
 abbrev pub publish : MigrationState → ℕ → CollectorAction Bool
 publish m id = from_state (λ s.
-    if is_none (row_of id s.fs.rows) then (set_migration (Some (between m)) >> done false)
-    else (on_fs (file_steps.replace id m.moves) >> set_migration (Some (between m)) >> done true))
+    if is_none (row_of id s.fs.rows) then (set_migration (Some (without_file m)) >> done false)
+    else (on_fs (file_steps.replace id m.moves) >> set_migration (Some (without_file m)) >> done true))
 
 -- resets the victim; a destination that is full is given back
 abbrev pub retire : MigrationState → CollectorAction NoValue

@@ -1,5 +1,5 @@
 -- Worked cases of the steps, computed.
-use Rattle.std.specs.Prelude.{◌≡◌, ℕ, zero, suc, ◌+◌, true, false, List, [], ◌∷◌, replicate, map, codes, None, Ok, Err, refl}
+use Rattle.std.specs.Prelude.{◌≡◌, ℕ, zero, suc, ◌+◌, true, false, List, [], ◌∷◌, replicate, map, codes, Ok, Err, refl}
 use Rattle.zone_image.specs.declared.Geometry.{Geometry}
 use Rattle.record_model.specs.Numbers.{varint}
 use Rattle.record_model.specs.Encoding.{payload_of, entry_bytes}
@@ -12,7 +12,7 @@ use Rattle.fs_model.specs.FsState.{FsState, ZoneDescriptor, descriptor_at}
 use Rattle.fs_model.specs.Trace.{done, ◌>>◌}
 use Rattle.fs_model.specs.LogSteps.{NoValue, FsAction, roll}
 use Rattle.fs_model.specs.TreeSteps.{create, rename, delete, mount_write}
-use Rattle.fs_model.specs.Turn.{LockState}
+use Rattle.fs_model.specs.Turn.{LockState, new_lock}
 
 -- a small device
 abbrev pub g : Geometry
@@ -90,6 +90,39 @@ rolled_sequence : ((back_and_forth 6 >> rename a b) second_mount).last.log.super
 unfolding create mount_write roll rename payload_of entry_bytes varint log_need change_need
 rolled_sequence = refl
 
+-- and the name moved
+renamed_in_the_end : names ((back_and_forth 6 >> rename a b) second_mount).last ≡ (b ∷ []) ∷ []
+unfolding create mount_write roll rename payload_of entry_bytes varint log_need change_need
+renamed_in_the_end = refl
+
+-- two empty files
+abbrev two_made : FsAction ℕ
+two_made = mount_write >> create a 0 false 7 >> create b 0 false 7
+
+-- the ids of the files
+abbrev ids : FsState → List ℕ
+ids s = map (λ r. r.entry.id) s.rows
+
+-- a rename onto another file's name takes it from that file, which is gone then
+renamed_over : ids ((two_made >> rename b a) formatted).last ≡ 2 ∷ []
+unfolding create mount_write roll rename payload_of entry_bytes varint log_need change_need
+renamed_over = refl
+
+-- and the other has it
+renamed_over_name : names ((two_made >> rename b a) formatted).last ≡ (a ∷ []) ∷ []
+unfolding create mount_write roll rename payload_of entry_bytes varint log_need change_need
+renamed_over_name = refl
+
+-- a rename to the same name changes nothing, though it takes a record
+renamed_to_itself : names ((two_made >> rename a a) formatted).last ≡ (a ∷ []) ∷ (b ∷ []) ∷ []
+unfolding create mount_write roll rename payload_of entry_bytes varint log_need change_need
+renamed_to_itself = refl
+
+-- its record
+record_of_itself : written ((two_made >> rename a a) formatted).last ≡ 0 ∷ 6 ∷ 0 ∷ 0 ∷ 0 ∷ []
+unfolding create mount_write roll rename payload_of entry_bytes varint log_need change_need
+record_of_itself = refl
+
 -- eight files with names of 200 bytes on a device of eight blocks a zone
 abbrev pub c : Geometry
 c = record g { capacity = 8 }
@@ -116,6 +149,6 @@ one_deleted : (delete (name 3) (seven_files (formatted_on c)).last).answer ≡ O
 unfolding create mount_write roll delete payload_of entry_bytes varint log_need change_need
 one_deleted = refl
 
--- a restore of one file of five bytes
+-- a lock over it
 abbrev pub locked : FsState → LockState
-locked s = record { fs = s; slots = []; migration = None }
+locked s = new_lock s

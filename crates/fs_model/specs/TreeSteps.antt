@@ -13,7 +13,7 @@ use Rattle.fs_model.specs.declared.error.FsError.TheVariants.{NotFound, Exists, 
 use Rattle.fs_model.specs.ZonePolicy.{data_zones, is_idle_active, least, room_of}
 use Rattle.fs_model.specs.FsState.{FsState, TableRow, working, zone_states, row_of, row_named, on_row}
 use Rattle.fs_model.specs.Trace.{done, refuse, step, ◌>>◌, from_state, refuse_if, when}
-use Rattle.fs_model.specs.LogSteps.{FsAction, NoValue, finish_zone, set_rows, at_sequence_end, roll, add_record, refuse_sequence, block_of, rows_need, refuse_above, reset_garbage}
+use Rattle.fs_model.specs.LogSteps.{FsAction, NoValue, finish_zone, set_rows, at_sequence_end, roll, add_record, refuse_sequence, block_of, rows_need, refuse_above, reset_dead_zones}
 
 -- a change with its record: refused for want of a sequence or of room, and else recorded, shown, and tidied up
 abbrev pub change_rows : FsState → Record → List TableRow → ℕ → FsAction NoValue
@@ -22,7 +22,7 @@ change_rows s r after greatest =
     >> refuse_above s (rows_need s after (blocks_of_record (block_of s) r))
     >> add_record (blocks_of_record (block_of s) r)
     >> step (λ t. record t { rows = after; greatest = greatest })
-    >> reset_garbage
+    >> reset_dead_zones
 
 -- the entry of a new file
 abbrev pub new_entry : ℕ → List ℕ → ℕ → Bool → ℕ → FileEntry
@@ -101,7 +101,7 @@ rename old new = from_state (λ s. rename_to s (row_named old s.rows) old new)
 
 -- a deletion whose record has so many blocks; it always has room
 abbrev pub delete_by : ℕ → List ℕ → FsAction NoValue
-delete_by blocks name = refuse_sequence blocks >> add_record blocks >> set_rows (drop_name name) >> reset_garbage
+delete_by blocks name = refuse_sequence blocks >> add_record blocks >> set_rows (drop_name name) >> reset_dead_zones
 
 -- deletes a name of a file, if there is one
 abbrev pub delete_row : FsState → Option TableRow → List ℕ → FsAction NoValue
@@ -124,8 +124,8 @@ finish_one None = done tt
 finish_one (Some z) = finish_zone z.0
 
 -- where all tokens are taken, the active zone with least room is finished
-abbrev pub free_a_token : FsAction NoValue
-free_a_token = from_state (λ s.
+abbrev pub free_token : FsAction NoValue
+free_token = from_state (λ s.
     when (count_by is_idle_active (data_zones (zone_states s)) == s.geometry.active_limit)
     (finish_one (least (λ z. room_of s.geometry.capacity z.1) (filter is_idle_active (data_zones (zone_states s))))))
 
@@ -135,6 +135,6 @@ mount_write = from_state (λ s.
     refuse_if (at_sequence_end s) SequenceEnd
     >> refuse_above s (log_need (block_of s) (working s))
     >> set_rows (map cleared)
-    >> free_a_token
+    >> free_token
     >> roll
-    >> reset_garbage)
+    >> reset_dead_zones)

@@ -4,7 +4,7 @@ use Rattle.zone_image.specs.declared.Geometry.{Geometry}
 use Rattle.record_model.specs.Numbers.{varint}
 use Rattle.record_model.specs.Encoding.{payload_of, entry_bytes}
 use Rattle.log_model.specs.Headroom.{log_need, change_need}
-use Rattle.fs_model.specs.declared.error.FsError.TheVariants.{Busy, Gone, Exists}
+use Rattle.fs_model.specs.declared.error.FsError.TheVariants.{Busy, Gone, Exists, InUse}
 use Rattle.fs_model.specs.ZonePolicy.{choose_zone}
 use Rattle.fs_model.specs.FsState.{ZoneDescriptor, TableRow}
 use Rattle.fs_model.specs.Trace.{done, ◌>>◌}
@@ -51,6 +51,11 @@ second_is_busy = refl
 second_goes_on : ((two_writers >> with_writer 1 (λ w. close_file 1 w 7) (done tt) >> append_all 2 1 7) (locked (formatted_on narrow))).answer ≡ Ok tt
 unfolding create mount_write roll commit recovery_point_fits take_zone note_extent extent_fits give_back mark_open mark_closed writers.sync writers.close choose_zone payload_of entry_bytes varint log_need change_need
 second_goes_on = refl
+
+-- a file has one writer at a time
+second_writer : ((two_writers >> on_fs (mark_open 1)) (locked (formatted_on narrow))).answer ≡ Err InUse
+unfolding create mount_write roll commit recovery_point_fits take_zone note_extent extent_fits give_back mark_open mark_closed writers.sync writers.close choose_zone payload_of entry_bytes varint log_need change_need
+second_writer = refl
 
 -- ---- a file that fills its zone, and one byte more
 

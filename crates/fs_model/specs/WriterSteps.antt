@@ -63,7 +63,7 @@ unrecorded_of s = unrecorded_in (row_of s.writer.id s.fs.rows)
 abbrev pub is_gone : Session → Bool
 is_gone s = is_none (row_of s.writer.id s.fs.rows)
 
--- refused where it isn't
+-- refused where the file isn't there
 abbrev pub refuse_gone : WriterAction NoValue
 refuse_gone = from_state (λ s. refuse_if (is_gone s) Gone)
 
@@ -73,21 +73,21 @@ with_zone f None = done tt
 with_zone f (Some zone) = f zone
 
 -- gives this zone back
-abbrev pub let_go : Bool → ℕ → WriterAction NoValue
-let_go close zone = on_fs (file_steps.give_back zone close) >> set_writer (λ w. record w { zone = None })
+abbrev pub release_zone : Bool → ℕ → WriterAction NoValue
+release_zone close zone = on_fs (file_steps.give_back zone close) >> set_writer (λ w. record w { zone = None })
 
 -- gives the writer's zone back, if it holds one
-abbrev pub give_back : Bool → WriterAction NoValue
-give_back close = from_state (λ s. with_zone (let_go close) s.writer.zone)
+abbrev pub release_held : Bool → WriterAction NoValue
+release_held close = from_state (λ s. with_zone (release_zone close) s.writer.zone)
 
 -- commits the file
 abbrev pub commit : ℕ → WriterAction NoValue
 commit now = from_state (λ s. on_fs (file_steps.commit s.writer.id now))
 
--- a full zone is committed and given back
-abbrev pub leave_full : ℕ → WriterAction NoValue
-leave_full now = from_state (λ s.
-    when (is_some s.writer.zone && (room_of s == 0)) (commit now >> give_back false))
+-- where the zone is full, the file is committed and the zone given back
+abbrev pub commit_full_zone : ℕ → WriterAction NoValue
+commit_full_zone now = from_state (λ s.
+    when (is_some s.writer.zone && (room_of s == 0)) (commit now >> release_held false))
 
 -- takes a zone
 abbrev pub take_zone : WriterAction NoValue
@@ -142,7 +142,7 @@ flush_full = from_state (λ s.
 
 -- appends a byte to a file that isn't sparse
 abbrev pub append_plain : ℕ → WriterAction NoValue
-append_plain now = refuse_gone >> leave_full now >> ensure_zone >> take_byte >> flush_full >> leave_full now
+append_plain now = refuse_gone >> commit_full_zone now >> ensure_zone >> take_byte >> flush_full >> commit_full_zone now
 
 -- the rest of the buffer, filled up with zeros
 abbrev pub flush_rest : WriterAction NoValue
@@ -154,16 +154,16 @@ flush_rest = from_state (λ s.
 abbrev pub has_unrecorded : Session → Bool
 has_unrecorded s = nat_lt 0 (length (unrecorded_of s))
 
--- gives a full zone back
-abbrev pub leave_after_commit : WriterAction NoValue
-leave_after_commit = from_state (λ s. when (is_some s.writer.zone && (room_of s == 0)) (give_back false))
+-- gives the zone back where it is full
+abbrev pub release_full_zone : WriterAction NoValue
+release_full_zone = from_state (λ s. when (is_some s.writer.zone && (room_of s == 0)) (release_held false))
 
 -- syncs a file that isn't sparse
 abbrev pub sync_plain : ℕ → WriterAction NoValue
 sync_plain now =
     refuse_gone
-    >> leave_full now
-    >> from_state (λ s. when (has_unrecorded s) (flush_rest >> commit now >> leave_after_commit))
+    >> commit_full_zone now
+    >> from_state (λ s. when (has_unrecorded s) (flush_rest >> commit now >> release_full_zone))
 
 -- ---- sparse files
 
@@ -171,7 +171,7 @@ sync_plain now =
 abbrev pub frame_room : Session → ℕ
 frame_room s = room_of s * block_of s - 8
 
--- bytes that stayed behind when a frame was shortened to its zone have their extent as soon as a zone is held
+-- bytes that were left when a frame was shortened to fit its zone have their extent as soon as a zone is held
 abbrev pub note_rest : WriterAction NoValue
 note_rest = from_state (λ s.
     when (nat_lt 0 s.writer.buffered)
@@ -204,17 +204,17 @@ write_full_frame now = from_state (λ s.
 -- appends a byte to a sparse file
 abbrev pub append_sparse : ℕ → WriterAction NoValue
 append_sparse now =
-    refuse_gone >> leave_full now >> ensure_frame_zone >> take_frame_byte >> write_full_frame now >> leave_full now
+    refuse_gone >> commit_full_zone now >> ensure_frame_zone >> take_frame_byte >> write_full_frame now >> commit_full_zone now
 
 -- frames until the buffer is empty; each takes a byte, so k bounds them
 abbrev pub write_frames : ℕ → ℕ → WriterAction NoValue
 write_frames zero now = done tt
 write_frames (suc k) now = from_state (λ s.
-    when (nat_lt 0 s.writer.buffered) (ensure_frame_zone >> write_frame now >> leave_full now >> write_frames k now))
+    when (nat_lt 0 s.writer.buffered) (ensure_frame_zone >> write_frame now >> commit_full_zone now >> write_frames k now))
 
 -- syncs a sparse file
 abbrev pub sync_sparse : ℕ → WriterAction NoValue
-sync_sparse now = refuse_gone >> leave_full now >> from_state (λ s. write_frames s.writer.buffered now)
+sync_sparse now = refuse_gone >> commit_full_zone now >> from_state (λ s. write_frames s.writer.buffered now)
 
 -- ---- both
 
@@ -246,5 +246,5 @@ closed = from_state (λ s. on_fs (file_steps.mark_closed s.writer.id))
 -- whether the file was there
 unfoldable pub close : ℕ → WriterAction Bool
 close now = from_state (λ s.
-    if is_gone s then (give_back true >> closed >> done false)
-    else (sync now >> commit_held now >> give_back true >> closed >> done true))
+    if is_gone s then (release_held true >> closed >> done false)
+    else (sync now >> commit_held now >> release_held true >> closed >> done true))

@@ -1,4 +1,5 @@
-//! Zones and their owners, the policy of zones, and the steps of each call.
+//! The meaning of a mounted file system: its state, the policy of zones, the trace of each
+//! operation, and the histories that callers may see.
 #![tactic(auto)]
 
 mod error;
@@ -7,6 +8,6 @@ mod policy;
 mod zones;
 
 pub use error::FsError;
-pub use operations::{Entry, Made, Op, Reply, Step};
+pub use operations::{Changes, Entry, Made, Op, Reply, Step};
 pub use policy::{Before, Choice, Plan, Space};
 pub use zones::{Move, Owner, ZoneState};
