@@ -3,3 +3,4 @@ pub mod CrashLaws
 pub mod ImageLaws
 pub mod InfoLaws
 pub mod MomentLaws
+pub mod ReadLaws
