@@ -1,0 +1,62 @@
+-- A reader of the records of a zone, one by one.
+use Rattle.std.specs.Prelude.{◌≡◌, ℕ, ◌+◌, ◌≤◌, ⊤, List, length, drop, Option, Some, None}
+use Rattle.log_model.specs.LogScan.{Item, ScanEnd, blocks_of, first_item}
+use Rattle.log_model.specs.LogScan.Item.{NoMore, Unfinished, Wrong, Whole}
+use Rattle.log_model.specs.LogScan.ScanEnd.{Clean, Torn, Bad}
+use Rattle.meta_log.specs.Ends.{scan_end}
+use Rattle.meta_log.specs.declared.item.Found.{Found}
+use Rattle.meta_log.specs.declared.item.Found.TheVariants as found
+use Rattle.meta_log.specs.declared.item.LogItem.{LogItem}
+use Rattle.meta_log.specs.declared.item.LogItem.TheVariants as log_item
+
+-- a reader: its zone, the device's block size, the zone's written blocks, the next block, and the end that it found
+pub record ReaderState : Type 0 where
+  pub zone : ℕ
+  pub block_size : ℕ
+  pub written : ℕ
+  pub next : ℕ
+  pub ended : Option ScanEnd
+
+-- the item that stands at a block
+abbrev pub item_at : ℕ → Item → LogItem
+item_at at NoMore = log_item.Clean
+item_at at Unfinished = log_item.Torn at
+item_at at (Wrong len stored computed) = log_item.Bad at len stored computed
+item_at at (Whole count payload) = log_item.Payload at payload
+
+-- an end as an item
+abbrev pub end_item : ScanEnd → LogItem
+end_item Clean = log_item.Clean
+end_item (Torn block) = log_item.Torn block
+end_item (Bad block len stored computed) = log_item.Bad block len stored computed
+
+-- the end that was found before, or this item
+abbrev pub unless_ended : Option ScanEnd → LogItem → LogItem
+unless_ended None item = item
+unless_ended (Some end) item = end_item end
+
+-- what was found at a block, as an item
+abbrev pub found_item : ℕ → Found → LogItem
+found_item at (found.Record count bytes) = log_item.Payload at bytes
+found_item at (found.End end) = end_item (scan_end end)
+
+-- a record of this length and of so many blocks, or an end
+abbrev pub IsRecordOf : ℕ → ℕ → Found → Type 0
+IsRecordOf len blocks (found.Record count bytes) = (length bytes ≡ len) × (count ≡ blocks)
+IsRecordOf len blocks (found.End end) = ⊤
+
+-- a record has as many blocks as its length asks for, and these are left
+abbrev pub IsCounted : ReaderState → Found → Type 0
+IsCounted s (found.Record count bytes) = (count ≡ blocks_of s.block_size (length bytes)) × (s.next + count ≤ s.written)
+IsCounted s (found.End end) = ⊤
+
+-- what a reader finds in these blocks of its zone
+abbrev pub next_item : ReaderState → List (List ℕ) → LogItem
+next_item s blocks = unless_ended s.ended (item_at s.next (first_item s.block_size (drop s.next blocks)))
+
+-- the reader behind an item
+abbrev pub reader_after : ReaderState → LogItem → ReaderState
+reader_after s (log_item.Payload block bytes) = record s { next = s.next + blocks_of s.block_size (length bytes) }
+reader_after s log_item.Clean = record s { ended = Some Clean }
+reader_after s (log_item.Torn block) = record s { ended = Some (Torn block) }
+reader_after s (log_item.Bad block len stored computed) = record s { ended = Some (Bad block len stored computed) }

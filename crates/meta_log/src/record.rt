@@ -1,0 +1,35 @@
+// How a record lies in its blocks.
+ghost use Rattle.std.specs.Prelude.{◌≡◌, ◌⊎◌, ◌+◌, ◌^◌, ◌<◌, ◌≤◌, length, take, drop};
+ghost use Rattle.log_model.specs.LogScan.{blocks_of, record_sum, whole_item};
+ghost use Rattle.superblock_core.specs.Superblock.{u32_at};
+
+use crc32c_core::{crc32c, extend, mask};
+
+/// Bytes before the payload: its checksum and its length.
+pub(crate) const HEADER: usize = 8;
+
+/// How many blocks a record takes whose payload has `len` bytes, on a device of this block size.
+pub fn blocks_of(len: u64, block: u32) -> u64
+    requires block_size { (block ≡ 512) ⊎ (block ≡ 4096) }
+    requires fits { len < 2 ^ 63 }
+    ensures { result ≡ blocks_of block len }
+{
+    (len + HEADER as u64).div_ceil(u64::from(block))
+}
+
+/// The number of four bytes at a place, the lowest first.
+pub(crate) fn u32_at(bytes: &[u8], at: usize) -> u32
+    requires { at + 4 ≤ length bytes.now }
+    ensures { result ≡ u32_at at bytes.now }
+{
+    u32::from_le_bytes([bytes[at], bytes[at + 1], bytes[at + 2], bytes[at + 3]])
+}
+
+/// The checksum that is stored before a payload and its length.
+pub(crate) fn record_sum(payload: &[u8]) -> u32
+    requires { length payload.now < 2 ^ 32 }
+    ensures { result ≡ record_sum payload.now }
+{
+    let len = (payload.len() as u32).to_le_bytes();
+    mask(extend(crc32c(&len), payload))
+}
