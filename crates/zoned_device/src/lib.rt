@@ -3,6 +3,8 @@
 
 mod device;
 mod error;
+mod memory;
+mod zone_buffer;
 
 pub use device::ZonedDevice;
 pub use error::{DevFault, MakeError, ProbeError};
