@@ -1,14 +1,9 @@
 -- A zone's buffer after an append.
-use Rattle.std.proofs.Common.{◌≡◌, ℕ, ◌+◌, ◌-◌, ◌*◌, ◌/◌, ◌%◌, ◌≤◌, Bool, ◌||◌, ◌==◌, List, ◌++◌, length, sym, ◌∙◌, ap, arith, length-append}
+use Rattle.std.proofs.Common.{◌≡◌, ℕ, ◌+◌, ◌*◌, ◌/◌, ◌%◌, ◌≤◌, Bool, ◌||◌, ◌==◌, List, ◌++◌, length, sym, ◌∙◌, ap, arith, length-append}
 use Rattle.std.proofs.Math.Nat.{mul-le-mul_right}
-use Rattle.std.proofs.lemmas.Nat.{div-add-mod'}
 use Rattle.zone_image.specs.Image.{Zone}
 use Rattle.zone_image.specs.Changes.{chunks, zone_appended}
-use Rattle.zone_image.proofs.BlockLaws.{chunks-append, length-chunks}
-
--- bytes of whole blocks
-pub whole_bytes : (bytes block : ℕ) → bytes % block ≡ 0 → bytes / block * block ≡ bytes
-whole_bytes bytes block whole = omega (arith, div-add-mod' bytes block, whole)
+use Rattle.zone_image.proofs.BlockLaws.{chunks-append, length-chunks, whole_bytes}
 
 -- more blocks fit the memory that was taken for the capacity
 pub room_for : (bytes block written capacity room : ℕ) → bytes % block ≡ 0 → written + bytes / block ≤ capacity → capacity * block ≤ room → written * block + bytes ≤ room

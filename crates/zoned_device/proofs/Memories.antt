@@ -1,19 +1,17 @@
 -- An image in memory when the buffer of one zone changes.
-use Rattle.std.proofs.Common.{◌≡◌, ℕ, ◌+◌, ◌*◌, ◌/◌, ◌%◌, ◌<◌, ◌≤◌, Bool, false, List, [], ◌∷◌, length, map, take, drop, get_or, set, refl, sym, ◌∙◌, ap, subst, arith}
+use Rattle.std.proofs.Common.{◌≡◌, ℕ, ◌+◌, ◌*◌, ◌/◌, ◌%◌, ◌<◌, ◌≤◌, false, List, [], ◌∷◌, length, map, take, drop, get_or, set, refl, sym, ◌∙◌, ap, subst, arith}
 use Rattle.std.specs.List.{All, concat}
 use Rattle.std.proofs.lemmas.List.{get_or-map, length-map, map-set}
 use Rattle.std.proofs.lemmas.List.Elements.{All-set, All-get_or, All-tail, All-map, All-weaker}
 use Rattle.zone_image.specs.declared.Geometry.{Geometry}
-use Rattle.zone_image.specs.declared.ZoneInfo.{ZoneInfo}
-use Rattle.zone_image.specs.Image.{Zone, Image, no_zone, zone_at}
-use Rattle.zone_image.specs.Changes.{chunks, blocks_in, bytes_at, change_at, with_zone, zone_appended, zone_finished, zone_synced, synced, appended, finished, emptied}
+use Rattle.zone_image.specs.Image.{Zone, no_zone, zone_at}
+use Rattle.zone_image.specs.Changes.{chunks, blocks_in, bytes_at, with_zone, zone_appended, zone_finished, zone_synced, synced}
 use Rattle.zone_image.specs.Infos.{no_info, info_of, infos_of, info_at, active_zones, IsValidImage}
-use Rattle.zone_image.proofs.BlockLaws.{length-chunks, concat_part, All-chunks}
+use Rattle.zone_image.proofs.BlockLaws.{length-chunks, concat_part}
 use Rattle.zone_image.proofs.ImageLaws.{zone_in_is, change_at_is}
-use Rattle.zone_image.proofs.InfoLaws.{valid_finished, valid_emptied, valid_appended, valid_synced}
+use Rattle.zone_image.proofs.InfoLaws.{valid_finished, valid_emptied, valid_written, valid_synced}
 use Rattle.zoned_device.specs.declared.zone_buffer.ZoneBuffer.{ZoneBuffer}
 use Rattle.zoned_device.specs.Memory.{zone_in, image_in, synced_buffer, IsBuffer, IsMemory}
-use Rattle.zoned_device.proofs.Buffers.{whole_bytes}
 
 module _ (g : Geometry) (buffers : List ZoneBuffer) (is : IsMemory g buffers) (zone : ℕ) (b : ZoneBuffer) (in_range : zone < g.zones) (here : b ≡ get_or buffers zone b) where
   there : zone < length buffers
@@ -70,11 +68,9 @@ module _ (g : Geometry) (buffers : List ZoneBuffer) (is : IsMemory g buffers) (z
       → ((info_at (infos_of (image_in g buffers)) zone).written ≡ 0 → active_zones (infos_of (image_in g buffers)) < g.active_limit)
       → IsMemory g (set buffers zone c)
   memory_appended c bytes whole c_is changed unsealed room spare =
-      let count : length (blocks_in g bytes) ≡ length bytes / g.block = length-chunks g.block (length bytes / g.block) bytes in
-      let each = All-chunks g.block (length bytes / g.block) bytes (omega (arith, whole_bytes (length bytes) g.block whole)) in
       record {
         valid = subst IsValidImage (sym (with_buffer c (zone_appended g.capacity (blocks_in g bytes)) changed))
-            (valid_appended (image_in g buffers) zone is.valid in_range (blocks_in g bytes) each unsealed (omega (arith, count, room)) spare);
+            (valid_written (image_in g buffers) zone bytes is.valid in_range whole unsealed room spare);
         buffers_are = buffers_with c c_is;
       }
 

@@ -1,4 +1,4 @@
-use Rattle.std.proofs.Common.{◌≡◌, ◌<◌, sym, ◌∙◌, ap, subst, refl, arith}
+use Rattle.std.proofs.Common.{◌<◌, sym, ◌∙◌, ap, subst, refl}
 use Rattle.zone_image.specs.Image.{Image}
 use Rattle.zone_image.specs.Changes.{zone_finished, finished}
 use Rattle.zoned_device.proofs.Memories.{buffer_is, with_buffer, memory_finished}

@@ -1,4 +1,4 @@
-use Rattle.std.proofs.Common.{◌≡◌, ◌<◌, sym, ◌∙◌, ap, subst, arith}
+use Rattle.std.proofs.Common.{◌<◌, sym, ◌∙◌, ap, subst}
 use Rattle.zone_image.specs.Image.{Image}
 use Rattle.zone_image.specs.Infos.{info_at, infos_of}
 use Rattle.zoned_device.proofs.Memories.{info_is}

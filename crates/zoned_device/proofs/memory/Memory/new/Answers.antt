@@ -1,5 +1,4 @@
 use Rattle.std.proofs.Common.{◌≡◌, sym, ap, subst}
-use Rattle.zone_image.specs.Image.{Image}
 use Rattle.zone_image.specs.Changes.{blank}
 use Rattle.zone_image.specs.Infos.{IsValidImage}
 use Rattle.zone_image.proofs.InfoLaws.{valid_blank}

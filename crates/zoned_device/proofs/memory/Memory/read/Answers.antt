@@ -2,7 +2,7 @@ use Rattle.std.proofs.Common.{◌≡◌, ◌≤◌, ◌<◌, ◌+◌, ◌*◌, �
 use Rattle.zone_image.specs.Image.{Image}
 use Rattle.zone_image.specs.Changes.{bytes_at}
 use Rattle.zone_image.specs.Infos.{info_at, infos_of}
-use Rattle.zoned_device.proofs.Buffers.{whole_bytes}
+use Rattle.zone_image.proofs.BlockLaws.{whole_bytes}
 use Rattle.zoned_device.proofs.Memories.{info_is, bytes_are}
 use Rattle.zoned_device.proofs.memory.Memory.read.Goals as goal
 

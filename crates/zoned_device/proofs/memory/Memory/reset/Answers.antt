@@ -1,4 +1,4 @@
-use Rattle.std.proofs.Common.{◌≡◌, ◌<◌, sym, ◌∙◌, ap, subst, refl, arith}
+use Rattle.std.proofs.Common.{◌<◌, sym, ◌∙◌, ap, subst}
 use Rattle.zone_image.specs.Image.{Image, no_zone}
 use Rattle.zone_image.specs.Changes.{emptied}
 use Rattle.zoned_device.proofs.Memories.{with_buffer, memory_emptied}

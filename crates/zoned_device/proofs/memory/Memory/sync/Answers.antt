@@ -1,8 +1,7 @@
-use Rattle.std.proofs.Common.{◌≡◌, List, length, map, sym, ◌∙◌, ap, subst, arith}
-use Rattle.std.proofs.lemmas.List.{with_items_is, length-map}
+use Rattle.std.proofs.Common.{◌≡◌, length, map, sym, ◌∙◌, ap, subst}
+use Rattle.std.proofs.lemmas.List.{with_items_is}
 use Rattle.zone_image.specs.Image.{Image}
 use Rattle.zone_image.specs.Changes.{synced}
-use Rattle.zoned_device.specs.declared.zone_buffer.ZoneBuffer.{ZoneBuffer}
 use Rattle.zoned_device.specs.Memory.{image_in, synced_buffer, IsMemory}
 use Rattle.zoned_device.proofs.Memories.{image_synced, memory_synced}
 use Rattle.zoned_device.proofs.memory.Memory.sync.Goals as goal
