@@ -1,6 +1,8 @@
 //! The superblock, the first record of a metadata log: its fields, its 512 bytes, and their faults.
 #![tactic(auto)]
 
+mod field;
+mod identifier;
 mod superblock;
 mod text;
 
