@@ -16,7 +16,7 @@ bound-rises place zero =
 bound-rises place (suc more) =
     let next : suc more + place ≡ suc (more + place) = omega arith in
     let rises : digits_bound place ≤ digits_bound (suc (more + place)) =
-      omega (arith, bound-rises place more, bound-step (is_hyphen_place (more + place)) (digits_bound (more + place))) in
+    omega (arith, bound-rises place more, bound-step (is_hyphen_place (more + place)) (digits_bound (more + place))) in
     subst (λ n. digits_bound place ≤ digits_bound n) (sym next) rises
 
 -- a hyphen leaves the bound, a digit raises it sixteenfold
@@ -41,13 +41,13 @@ digits-fit place value digit within is small low =
 
 -- one more character
 pub uuid_from-next : (text : List ℕ) (place value v : ℕ) → place < length text → after_character place value (get_or text place 0) ≡ Some v
-  → uuid_from (place + 1) v (drop (place + 1) text) ≡ uuid_from place value (drop place text)
+    → uuid_from (place + 1) v (drop (place + 1) text) ≡ uuid_from place value (drop place text)
 uuid_from-next text place value v within is =
     let front : drop place text ≡ get_or text place 0 ∷ drop (place + 1) text = rw (add-one, drop-cons text place 0) in
     sym (ap (uuid_from place value) front ∙ ap (option_and_then (λ n. uuid_from (place + 1) n (drop (place + 1) text))) is)
 
 pub uuid_from-stop : (text : List ℕ) (place value : ℕ) → place < length text → after_character place value (get_or text place 0) ≡ None
-  → uuid_from place value (drop place text) ≡ None
+    → uuid_from place value (drop place text) ≡ None
 uuid_from-stop text place value within is =
     let front : drop place text ≡ get_or text place 0 ∷ drop (place + 1) text = rw (add-one, drop-cons text place 0) in
     ap (uuid_from place value) front ∙ ap (option_and_then (λ n. uuid_from (place + 1) n (drop (place + 1) text))) is

@@ -5,7 +5,9 @@ use Rattle.std.specs.Option.{option_map, option_and_then}
 use Rattle.record_model.specs.Numbers.{u32}
 use Rattle.superblock_core.specs.Text.{padded, text_in}
 use Rattle.superblock_core.specs.declared.superblock.Superblock.{Superblock}
+use Rattle.superblock_core.specs.declared.superblock.Differs.{Differs}
 use Rattle.superblock_core.specs.declared.superblock.SbError.{SbError}
+use Rattle.zone_image.specs.declared.Geometry.{Geometry}
 use Rattle.superblock_core.specs.declared.superblock.SbError.TheVariants.{Magic, Version, Flags, Text}
 
 -- the four bytes at an offset, as a number
@@ -107,3 +109,11 @@ superblock_bytes s =
     u32 magic ++ padded 37 (uuid_text s.id) ++ u32 s.sequence ++ u32 2 ++ u32 s.flags
     ++ u32 s.block ++ u32 s.zone_blocks ++ u32 s.zones ++ u32 s.finish_threshold
     ++ padded 256 s.aux_path ++ padded 64 s.version_text ++ replicate 123 0
+
+-- a superblock has the numbers of this shape of a device
+abbrev pub fits : Superblock → Geometry → Bool
+fits s g = (s.block == g.block) && (s.zone_blocks == g.zone_blocks) && (s.zones == g.zones)
+
+-- a superblock's own numbers
+abbrev pub own_numbers : Superblock → Differs
+own_numbers s = record { block = s.block; zone_blocks = s.zone_blocks; zones = s.zones }

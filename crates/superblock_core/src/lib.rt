@@ -6,5 +6,5 @@ mod identifier;
 mod superblock;
 mod text;
 
-pub use superblock::{SbError, Superblock};
+pub use superblock::{COLLECT_FLAG, Differs, SUPERBLOCK_BYTES, SbError, Superblock};
 pub use text::{AuxPath, VersionText};
