@@ -1,6 +1,6 @@
 // The identifier of a file system, as the text of a superblock's field: 32 hexadecimal digits, with
 // four hyphens among them.
-ghost use Rattle.std.specs.Prelude.{◌≡◌, ◌+◌, ◌<◌, length, IfSome};
+ghost use Rattle.std.specs.Prelude.{◌≡◌, ◌+◌, ◌<◌, ◌^◌, length, IfSome};
 ghost use Rattle.superblock_core.specs.Text.{padded};
 ghost use Rattle.superblock_core.specs.Superblock.{hex_value, is_hyphen_place, after_character, uuid_from, uuid_in, hex_digit, hex_digits, uuid_text};
 ghost use Rattle.superblock_core.specs.Digits.{digits_bound};
@@ -69,7 +69,8 @@ fn hex_value(byte: u8) -> Option<u8>
 
 /// The field of an identifier: its text in lower case, and a zero.
 pub(crate) fn field(id: u128) -> [u8; FIELD]
-    ensures { result ≡ padded 37 (uuid_text id) }
+    ensures text { result ≡ padded 37 (uuid_text id) }
+    ensures fits { id < 2 ^ 128 }
 {
     let mut field = [0; FIELD];
     put(&mut field, 0, &hex_digits::<8>(id >> 96));
