@@ -22,7 +22,7 @@ is_text-of_no_utf8 bytes none =
     ap (λ b. b && list_all is_printable bytes) (false_from (is_utf8 bytes) (λ is. none (IsUtf8-from_is_utf8 bytes is)))
 
 pub text_in-at : (field : List ℕ) (end : ℕ) (text : Bool) → position (λ b. b == 0) field ≡ Some end → is_text (take end field) ≡ text
-  → text_in field ≡ (if text then Some (take end field) else None)
+    → text_in field ≡ (if text then Some (take end field) else None)
 text_in-at field end text at is =
     ap (λ o. option_and_then (λ e. text_of (take e field)) o) at ∙ ap (λ b. if b then Some (take end field) else None) is
 
@@ -31,7 +31,7 @@ text_in-none field at = ap (λ o. option_and_then (λ e. text_of (take e field))
 
 -- a field as it is made: the text, and then zeros
 pub padded-of_text : (n : ℕ) (text : List ℕ) → FitsField n text
-  → (length text ≡ length (take (length text) (text ++ drop (length text) (replicate n 0))))
+    → (length text ≡ length (take (length text) (text ++ drop (length text) (replicate n 0))))
     × (text ++ drop (length text) (replicate n 0) ≡ padded n (take (length text) (text ++ drop (length text) (replicate n 0))))
     × FitsField n (take (length text) (text ++ drop (length text) (replicate n 0)))
 padded-of_text n text fits =

@@ -1,10 +1,13 @@
 -- The superblock: 512 bytes.
 use Rattle.std.specs.Prelude.{ℕ, zero, suc, ◌+◌, ◌*◌, ◌-◌, ◌/◌, ◌%◌, ◌^◌, Bool, not, ◌&&◌, ◌||◌, List, [], ◌∷◌, ◌++◌, length, take, drop, replicate, Option, Some, None, Result, Ok, Err, nat_lt, nat_le, ◌==◌, if◌then◌else◌, slice_index}
 use Rattle.std.specs.Int.{w32, from_le_bytes}
+use Rattle.std.specs.Option.{option_map, option_and_then}
 use Rattle.record_model.specs.Numbers.{u32}
 use Rattle.superblock_core.specs.Text.{padded, text_in}
 use Rattle.superblock_core.specs.declared.superblock.Superblock.{Superblock}
+use Rattle.superblock_core.specs.declared.superblock.Differs.{Differs}
 use Rattle.superblock_core.specs.declared.superblock.SbError.{SbError}
+use Rattle.zone_image.specs.declared.Geometry.{Geometry}
 use Rattle.superblock_core.specs.declared.superblock.SbError.TheVariants.{Magic, Version, Flags, Text}
 
 -- the four bytes at an offset, as a number
@@ -22,18 +25,20 @@ hex_value b =
     else if nat_le 97 b && nat_le b 102 then Some (b - 87)
     else if nat_le 65 b && nat_le b 70 then Some (b - 55) else None
 
--- goes on with a digit, if it is one
-abbrev pub with_digit : Option ℕ → (ℕ → Option ℕ) → Option ℕ
-with_digit None next = None
-with_digit (Some d) next = next d
+-- the places of an identifier's text where a hyphen stands
+abbrev pub is_hyphen_place : ℕ → Bool
+is_hyphen_place place = (place == 8) || (place == 13) || (place == 18) || (place == 23)
 
--- a text of hexadecimal digits, with hyphens at these places, read into a number
+-- the number so far, after the character at a place
+abbrev pub after_character : ℕ → ℕ → ℕ → Option ℕ
+after_character place value b =
+    if is_hyphen_place place then (if b == 45 then Some value else None)
+    else option_map (λ d. 16 * value + d) (hex_value b)
+
+-- a text of hexadecimal digits with hyphens at their places, read into a number
 abbrev pub uuid_from : ℕ → ℕ → List ℕ → Option ℕ
 uuid_from place value [] = Some value
-uuid_from place value (b ∷ rest) =
-    if (place == 8) || (place == 13) || (place == 18) || (place == 23)
-    then (if b == 45 then uuid_from (place + 1) value rest else None)
-    else with_digit (hex_value b) (λ d. uuid_from (place + 1) (16 * value + d) rest)
+uuid_from place value (b ∷ rest) = option_and_then (λ v. uuid_from (place + 1) v rest) (after_character place value b)
 
 -- the identifier of a field of 37 bytes
 abbrev pub uuid_in : List ℕ → Option ℕ
@@ -104,3 +109,11 @@ superblock_bytes s =
     u32 magic ++ padded 37 (uuid_text s.id) ++ u32 s.sequence ++ u32 2 ++ u32 s.flags
     ++ u32 s.block ++ u32 s.zone_blocks ++ u32 s.zones ++ u32 s.finish_threshold
     ++ padded 256 s.aux_path ++ padded 64 s.version_text ++ replicate 123 0
+
+-- a superblock has the numbers of this shape of a device
+abbrev pub fits : Superblock → Geometry → Bool
+fits s g = (s.block == g.block) && (s.zone_blocks == g.zone_blocks) && (s.zones == g.zones)
+
+-- a superblock's own numbers
+abbrev pub own_numbers : Superblock → Differs
+own_numbers s = record { block = s.block; zone_blocks = s.zone_blocks; zones = s.zones }

@@ -78,7 +78,8 @@ impl<const N: usize> FieldText<N> {
     }
 
     fn field(&self) -> &[u8; N]
-        ensures { result.now ≡ padded N self.now }
+        ensures field { result.now ≡ padded N self.now }
+        ensures fits { FitsField N self.now }
     {
         &self.field
     }
@@ -165,7 +166,8 @@ impl AuxPath {
 
     // The field as it is written.
     pub(crate) fn field(&self) -> &[u8; PATH_FIELD]
-        ensures { result.now ≡ padded 256 self.now }
+        ensures field { result.now ≡ padded 256 self.now }
+        ensures fits { FitsField 256 self.now }
     {
         self.text.field()
     }
@@ -230,7 +232,8 @@ impl VersionText {
 
     // The field as it is written.
     pub(crate) fn field(&self) -> &[u8; VERSION_FIELD]
-        ensures { result.now ≡ padded 64 self.now }
+        ensures field { result.now ≡ padded 64 self.now }
+        ensures fits { FitsField 64 self.now }
     {
         self.text.field()
     }

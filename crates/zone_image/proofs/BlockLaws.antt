@@ -1,10 +1,12 @@
 -- Bytes as blocks: all arithmetic with the size of a block stands here.
-use Rattle.std.proofs.Common.{◌≡◌, ℕ, zero, suc, ◌+◌, ◌-◌, ◌*◌, ◌≤◌, List, [], ◌∷◌, ◌++◌, length, take, drop, refl, sym, ◌∙◌, ap, subst, arith, append_assoc, length-append, length-drop}
+use Rattle.std.proofs.Common.{◌≡◌, ℕ, zero, suc, ◌+◌, ◌-◌, ◌*◌, ◌/◌, ◌%◌, ◌≤◌, List, [], ◌∷◌, ◌++◌, length, take, drop, refl, sym, ◌∙◌, ap, arith, length-drop}
 use Rattle.std.specs.List.{All, concat}
-use Rattle.std.proofs.lemmas.List.{append-nil, nil_from_length, take-append-le, drop-append-le, take-take, drop-take, take-append-drop, length-take-le, drop-drop}
+use Rattle.std.proofs.lemmas.List.{nil_from_length, take-append-le, drop-append-le, take-take, drop-take, length-take-le, drop-drop}
 use Rattle.std.proofs.lemmas.List.Elements.{All-nil, All-cons}
 use Rattle.std.proofs.Math.Seq.{take-add}
-use Rattle.zone_image.specs.Changes.{chunks}
+use Rattle.std.proofs.lemmas.Nat.{div-add-mod'}
+use Rattle.zone_image.specs.declared.Geometry.{Geometry}
+use Rattle.zone_image.specs.Changes.{chunks, blocks_in}
 
 more : (n block : ℕ) → suc n * block ≡ block + n * block
 more n block = omega arith
@@ -79,3 +81,14 @@ pub All-chunks : (block n : ℕ) (xs : List ℕ) → n * block ≤ length xs →
 All-chunks block zero xs long = All-nil (λ (b : List ℕ). length b ≡ block)
 All-chunks block (suc n) xs long =
     All-cons (λ (b : List ℕ). length b ≡ block) (take block xs) (chunks block n (drop block xs)) (length-take-le block xs (omega (arith, long, more n block))) (All-chunks block n (drop block xs) (omega (arith, length-drop block xs, long, more n block)))
+
+-- bytes of whole blocks
+pub whole_bytes : (bytes block : ℕ) → bytes % block ≡ 0 → bytes / block * block ≡ bytes
+whole_bytes bytes block whole = omega (arith, div-add-mod' bytes block, whole)
+
+-- so many blocks are in the bytes, each of them whole
+pub length-blocks_in : (g : Geometry) (bytes : List ℕ) → length (blocks_in g bytes) ≡ length bytes / g.block
+length-blocks_in g bytes = length-chunks g.block (length bytes / g.block) bytes
+
+pub All-blocks_in : (g : Geometry) (bytes : List ℕ) → length bytes % g.block ≡ 0 → All (λ b. length b ≡ g.block) (blocks_in g bytes)
+All-blocks_in g bytes whole = All-chunks g.block (length bytes / g.block) bytes (omega (arith, whole_bytes (length bytes) g.block whole))

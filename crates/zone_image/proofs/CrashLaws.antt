@@ -1,14 +1,12 @@
 -- What a crash leaves of an image that is synced, of one that a crash left, and of one that a call changed.
-use Rattle.std.proofs.Common.{◌≡◌, ℕ, zero, suc, ◌+◌, ◌<◌, ◌≤◌, ◌⊎◌, inl, inr, Bool, true, false, not, ◌&&◌, cond, List, [], ◌∷◌, ◌++◌, length, map, take, get_or, ltb, refl, sym, ◌∙◌, ap, subst, arith, length-append, length-take}
-use Rattle.std.specs.List.{All, AllZip, count_by}
-use Rattle.std.proofs.lemmas.Bool.{le-ltb, lt-ltb, cases_lt}
-use Rattle.std.proofs.lemmas.List.{take_all, take-take, length-map}
-use Rattle.std.proofs.lemmas.List.Elements.{All-nil, All-cons, All-head, All-tail, All-take, All-same, length_all_zip}
-use Rattle.std.proofs.lemmas.List.Sums.{sum_by-cons}
+use Rattle.std.proofs.Common.{◌≡◌, List, [], ◌∷◌, length, map, refl, sym, ◌∙◌, ap, subst, arith}
+use Rattle.std.specs.List.{All, AllZip}
+use Rattle.std.proofs.lemmas.List.{take_all}
+use Rattle.std.proofs.lemmas.List.Elements.{All-head, All-tail}
 use Rattle.zone_image.specs.declared.Geometry.{Geometry}
 use Rattle.zone_image.specs.Image.{Zone, Image, ZoneCrash, IsCrash}
 use Rattle.zone_image.specs.Changes.{zone_synced, synced}
-use Rattle.zone_image.specs.Infos.{info_of, infos_of, is_active_info, active_zones, IsPossibleInfo, IsPossible, IsZone, IsValidImage}
+use Rattle.zone_image.specs.Infos.{IsZone, IsValidImage}
 
 -- two zones are one where their parts are
 same_zone : (y z : Zone) → y.blocks ≡ z.blocks → y.kept ≡ z.kept → y.sealed ≡ z.sealed → y ≡ z

@@ -1,7 +1,6 @@
 -- Changes of one zone, and zones by number.
-use Rattle.std.proofs.Common.{◌≡◌, ℕ, zero, suc, ◌+◌, ◌<◌, Bool, cond, List, [], ◌∷◌, length, map, get_or, set, refl, sym, ◌∙◌, ap, subst, arith}
+use Rattle.std.proofs.Common.{◌≡◌, ℕ, zero, suc, ◌+◌, ◌<◌, Bool, cond, List, [], ◌∷◌, length, map, get_or, set, refl, ◌∙◌, ap, arith}
 use Rattle.std.specs.List.{All, count_by}
-use Rattle.std.proofs.lemmas.List.{get_or-map, length-map, length-set}
 use Rattle.std.proofs.lemmas.List.Elements.{All-set, All-get_or, All-same}
 use Rattle.std.proofs.lemmas.List.Sums.{sum_by-set}
 use Rattle.zone_image.specs.Image.{Zone, no_zone, zone_in}

@@ -1,15 +1,16 @@
 -- What a device tells of its zones after a change is what the changed image has, and stays possible.
-use Rattle.std.proofs.Common.{◌≡◌, ℕ, zero, suc, ◌+◌, ◌<◌, ◌≤◌, ◌⊎◌, inl, inr, ⊎_elim, Bool, ◌||◌, ◌==◌, true, false, not, ◌&&◌, cond, List, [], ◌∷◌, ◌++◌, length, map, replicate, get_or, eqb, ltb, refl, sym, ◌∙◌, ap, subst, arith, length-append, IsTrue}
-use Rattle.std.specs.List.{All, count_by}
-use Rattle.std.proofs.lemmas.Bool.{cases_eq, eq-eqb, or_right, lt-ltb, le-ltb, and_left, and_right}
+use Rattle.std.proofs.Common.{◌≡◌, ℕ, zero, suc, ◌+◌, ◌/◌, ◌%◌, ◌<◌, ◌≤◌, ⊎_elim, Bool, ◌||◌, ◌==◌, true, false, not, ◌&&◌, cond, List, [], ◌∷◌, length, map, replicate, get_or, ltb, refl, sym, ◌∙◌, ap, subst, arith, length-append, IsTrue}
+use Rattle.std.specs.List.{All}
+use Rattle.std.proofs.lemmas.Bool.{cases_eq, eq-eqb, or_right, lt-ltb}
 use Rattle.std.proofs.lemmas.List.{length-map, length-replicate, get_or-map}
-use Rattle.std.proofs.lemmas.List.Elements.{All-nil, All-append, All-map, All-weaker, All-replicate, All-get_or}
+use Rattle.std.proofs.lemmas.List.Elements.{All-nil, All-append, All-map, All-weaker, All-replicate}
 use Rattle.std.proofs.lemmas.List.Folds.{sum_by-replicate}
 use Rattle.zone_image.specs.declared.Geometry.{Geometry}
 use Rattle.zone_image.specs.declared.ZoneInfo.{ZoneInfo}
-use Rattle.zone_image.specs.Image.{Zone, Image, no_zone, zone_in, zone_at, is_valid}
-use Rattle.zone_image.specs.Changes.{change_at, zone_appended, zone_finished, zone_synced, appended, finished, emptied, synced, blank}
+use Rattle.zone_image.specs.Image.{Zone, Image, no_zone, zone_at, is_valid}
+use Rattle.zone_image.specs.Changes.{blocks_in, zone_appended, zone_finished, zone_synced, appended, finished, emptied, synced, blank}
 use Rattle.zone_image.specs.Infos.{no_info, info_of, infos_of, info_at, is_active_info, active_zones, info_appended, info_finished, infos_appended, infos_finished, infos_emptied, infos_blank, IsPossibleInfo, IsPossible, IsZone, IsValidImage, IsImage}
+use Rattle.zone_image.proofs.BlockLaws.{length-blocks_in, All-blocks_in}
 use Rattle.zone_image.proofs.ImageLaws.{zone_in_is, length-change_at, map-change_at, All-change_at, count_by-change_at}
 
 -- the told numbers are those of the zone
@@ -136,6 +137,17 @@ module _ (i : Image) (zone : ℕ) (was : IsValidImage i) (in_range : zone < i.ge
           blocks = All-append (λ b. length b ≡ i.geometry.block) (get_or i.zones zone no_zone).blocks added z.blocks whole;
         }) was.zones;
   }
+
+-- an append whose conditions hold
+module _ (i : Image) (zone : ℕ) (bytes : List ℕ) where
+  pub infos_written : infos_of (appended i zone (blocks_in i.geometry bytes)) ≡ infos_appended i.geometry (infos_of i) zone (length bytes / i.geometry.block)
+  infos_written = infos-appended i zone (blocks_in i.geometry bytes) ∙ ap (infos_appended i.geometry (infos_of i) zone) (length-blocks_in i.geometry bytes)
+
+  pub valid_written : IsValidImage i → zone < i.geometry.zones → length bytes % i.geometry.block ≡ 0 → (info_at (infos_of i) zone).sealed ≡ false
+      → (info_at (infos_of i) zone).written + length bytes / i.geometry.block ≤ i.geometry.capacity
+      → ((info_at (infos_of i) zone).written ≡ 0 → active_zones (infos_of i) < i.geometry.active_limit) → IsValidImage (appended i zone (blocks_in i.geometry bytes))
+  valid_written was in_range whole unsealed room spare =
+      valid_appended i zone was in_range (blocks_in i.geometry bytes) (All-blocks_in i.geometry bytes whole) unsealed (omega (arith, length-blocks_in i.geometry bytes, room)) spare
 
 pub valid_synced : (i : Image) → IsValidImage i → IsValidImage (synced i)
 valid_synced i was = record {

@@ -47,3 +47,12 @@ module _ {D : Type 0} {tells : Type 0} {image : D → Image} {tick : D → ℕ} 
   -- what a crash since an earlier tick might have left, it might have left then already, or it has P
   pub second_law : {a b : D} {P : Image → Type 0} → LeavesOnly tick since a b P → (t : ℕ) (j : Image) → t ≤ tick a → since b t j → since a t j ⊎ P j
   second_law part t j le left = ⊎_elim (λ older. inl older) (λ since_a. inr (part.each j since_a)) (part.splits t j le left)
+
+-- a device that tells no moments leaves none
+pub untold : {D : Type 0} (tick : D → ℕ) (old new : D) (P : Image → Type 0) → tick old ≤ tick new → LeavesOnly tick (λ _ _ _. ⊥) old new P
+untold tick old new P later = record {
+  later = later;
+  each = λ j none. absurd none;
+  splits = λ t j le none. absurd none;
+  keeps = λ t j le none. ⊎_elim (λ n. n) (λ n. n) none;
+}

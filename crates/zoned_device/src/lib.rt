@@ -1,9 +1,14 @@
 //! Zoned devices: what a file system may ask of one, and devices in memory.
 #![tactic(auto)]
 
+mod counters;
 mod device;
 mod error;
+mod memory;
+mod sure_zones;
+mod zone_buffer;
 
 pub use device::ZonedDevice;
 pub use error::{DevFault, MakeError, ProbeError};
+pub use sure_zones::SureZones;
 pub use zone_image::{Geometry, Place, ZoneInfo};
