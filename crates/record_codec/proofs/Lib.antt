@@ -1,0 +1,4 @@
+pub mod Varints
+pub mod Loops
+pub mod Drafts
+pub mod DraftedReading

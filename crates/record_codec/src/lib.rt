@@ -1,0 +1,18 @@
+//! Metadata records as bytes: the encoder, and the decoder to a record or to the first fault.
+#![tactic(auto)]
+
+mod cursor;
+mod decoder;
+mod draft;
+mod entry;
+mod error;
+mod field;
+mod value;
+mod varint;
+
+pub use decoder::{TOO_LONG, decode};
+pub use error::DecodeError;
+pub use record_model::{
+    DecodeFault, Extent, Extents, FileEntry, Files, NO_ACTIVE, Name, NameError, Names, Payload,
+    Record, Why,
+};
