@@ -4,14 +4,18 @@
 mod cursor;
 mod decoder;
 mod draft;
+mod encoder;
 mod entry;
 mod error;
 mod field;
+mod length;
 mod value;
 mod varint;
 
 pub use decoder::{TOO_LONG, decode};
+pub use encoder::encode;
 pub use error::DecodeError;
+pub use length::encoded_len;
 pub use record_model::{
     DecodeFault, Extent, Extents, FileEntry, Files, NO_ACTIVE, Name, NameError, Names, Payload,
     Record, Why,
