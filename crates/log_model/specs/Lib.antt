@@ -2,6 +2,7 @@ pub mod LogScan
 pub mod ScanLaws
 pub mod LogSelection
 pub mod SelectionLaws
+pub mod LogChangeLaws
 pub mod FileTable
 pub mod Frames
 pub mod Mounted
