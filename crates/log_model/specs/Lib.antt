@@ -7,6 +7,7 @@ pub mod FileTable
 pub mod Frames
 pub mod Mounted
 pub mod MountLaws
+pub mod TableLaws
 pub mod FileTree
 pub mod Headroom
 pub mod Format

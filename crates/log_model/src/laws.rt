@@ -15,6 +15,15 @@ ghost use Rattle.log_model.specs.LogChangeLaws.{
   CompleteLogIsSelected,
   SelectedLogMayGrow,
 };
+ghost use Rattle.log_model.specs.TableLaws.{
+  CreateIsReplayed,
+  LinkIsReplayed,
+  RenameIsReplayed,
+  RenameOverIsReplayed,
+  DeleteIsReplayed,
+  GrowIsReplayed,
+  ReplaceKeepsTree,
+};
 ghost use Rattle.log_model.specs.SelectionLaws.{
   SkippedZoneHasNoLog,
   PassedOverMayGo,
@@ -133,4 +142,39 @@ pub fn complete_log_is_selected()
 /// The selected log may get more payloads, and it may end torn: it stays selected.
 pub fn selected_log_may_grow()
     ensures { SelectedLogMayGrow }
+{}
+
+/// The update of a new file, replayed, creates it in the tree.
+pub fn create_is_replayed()
+    ensures { CreateIsReplayed }
+{}
+
+/// The update with one more name, replayed, links it in the tree.
+pub fn link_is_replayed()
+    ensures { LinkIsReplayed }
+{}
+
+/// The update with a free name in place of another, replayed, renames it in the tree.
+pub fn rename_is_replayed()
+    ensures { RenameIsReplayed }
+{}
+
+/// The update with another file's name in place of one, replayed, renames over that file in the tree.
+pub fn rename_over_is_replayed()
+    ensures { RenameOverIsReplayed }
+{}
+
+/// A deletion, replayed, takes the name out of the tree.
+pub fn delete_is_replayed()
+    ensures { DeleteIsReplayed }
+{}
+
+/// An update with more extents, replayed, grows the file in the tree.
+pub fn grow_is_replayed()
+    ensures { GrowIsReplayed }
+{}
+
+/// A replacement by extents of the same bytes, replayed, leaves the tree as it is.
+pub fn replace_keeps_tree()
+    ensures { ReplaceKeepsTree }
 {}
