@@ -1,22 +1,22 @@
 -- How operations that leave other zones and files alone go together.
-use Rattle.std.specs.Prelude.{◌≡◌, ◌⊎◌, ℕ, ◌≤◌, ◌<◌, Bool, true, false, List, [], ◌∷◌, ◌++◌, Contains, Result, Ok, Err, refl, if◌then◌else◌}
+use Rattle.std.specs.Prelude.{◌≡◌, ℕ, ◌<◌, Bool, true, false, List, [], ◌∷◌, ◌++◌, Contains, Result, Ok, Err, refl}
 use Rattle.std.proofs.Common.{sym, ◌∙◌, ap, subst, append_assoc, inl, inr, ⊎_elim, arith}
-use Rattle.std.proofs.lemmas.List.Elements.{Contains-append_left, Contains-append_cases, Contains-push, Contains-push_cases}
+use Rattle.std.proofs.lemmas.List.Elements.{Contains-append_cases, Contains-push, Contains-push_cases}
 use Rattle.fs_model.specs.declared.error.FsError.{FsError}
 use Rattle.fs_model.specs.ZonePolicy.{is_idle_owner}
-use Rattle.fs_model.specs.FsState.{FsState, TableRow, descriptor_at}
-use Rattle.fs_model.specs.Trace.{Trace, Action, done, refuse, step, continue, ◌>>=◌, ◌>>◌, from_state, refuse_if, when, each, intermediate_states}
+use Rattle.fs_model.specs.FsState.{FsState, TableRow}
+use Rattle.fs_model.specs.Trace.{done, refuse, step, continue, ◌>>=◌, ◌>>◌, from_state, refuse_if, when, each, intermediate_states}
 use Rattle.fs_model.specs.LogSteps.{FsAction, NoValue}
-use Rattle.fs_model.specs.Untouched.{SameFile, WasThere, KeepsFiles, KeepsHeldZones, LeavesAlone, OnlyTouches, is_one_of}
+use Rattle.fs_model.specs.Untouched.{SameFile, WasThere, KeepsFiles, LeavesAlone, OnlyTouches, is_one_of}
 
 -- ---- files
 
 -- a file is as it is
-same_file : (r : TableRow) → SameFile r r
+pub same_file : (r : TableRow) → SameFile r r
 same_file r = record { id = refl; recorded = refl; unrecorded = refl; shown = refl; recovery_point = refl }
 
 -- a file that is as it was when it was as it had been
-same_file_then : {r q p : TableRow} → SameFile r q → SameFile q p → SameFile r p
+pub same_file_then : {r q p : TableRow} → SameFile r q → SameFile q p → SameFile r p
 same_file_then a b = record {
   id = a.id ∙ b.id;
   recorded = a.recorded ∙ b.recorded;
@@ -26,7 +26,7 @@ same_file_then a b = record {
 }
 
 -- a file of a longer list
-files_more : (ids : List ℕ) (q : TableRow) (before rs : List TableRow) → KeepsFiles ids before rs → KeepsFiles ids (q ∷ before) rs
+pub files_more : (ids : List ℕ) (q : TableRow) (before rs : List TableRow) → KeepsFiles ids before rs → KeepsFiles ids (q ∷ before) rs
 files_more ids q before [] h = tt
 files_more ids q before (r ∷ rs) h = (λ out. inr (h.0 out), files_more ids q before rs h.1)
 
@@ -46,7 +46,7 @@ was_there ids a (q ∷ qs) r h out there =
     earlier (p ∷ ps) w same = ⊎_elim (λ is. inl (same_file_then same is)) (λ later. inr (earlier ps later same)) w
 
 -- kept twice is kept
-files_then : (ids : List ℕ) (a b c : List TableRow) → KeepsFiles ids a b → KeepsFiles ids b c → KeepsFiles ids a c
+pub files_then : (ids : List ℕ) (a b c : List TableRow) → KeepsFiles ids a b → KeepsFiles ids b c → KeepsFiles ids a c
 files_then ids a b [] h k = tt
 files_then ids a b (r ∷ rs) h k = (λ out. was_there ids a b r h out (k.0 out), files_then ids a b rs h k.1)
 
@@ -78,7 +78,7 @@ ends_here zones ids m s is = record {
   every = λ low t h.
       let P : List FsState → Type 0 = λ xs. Contains xs t in
       let Q : FsState → Type 0 = λ u. LeavesAlone zones ids s u in
-      ⊎_elim (λ none. absurd (omega (arith, none.1))) (λ same. subst Q same (stays zones ids s low)) (Contains-push_cases [] s t (subst P is h))
+      ⊎_elim (λ none. absurd (omega (arith, none.1))) (λ same. subst Q same (stays zones ids s low)) (Contains-push_cases [] s t (subst P is h));
 }
 
 -- nothing
@@ -96,7 +96,7 @@ keeps_step {zones = zones} {ids = ids} {s = s} f next = record {
       let Q : FsState → Type 0 = λ u. LeavesAlone zones ids s u in
       ⊎_elim
       (λ first. ⊎_elim (λ none. absurd (omega (arith, none.1))) (λ same. subst Q same (stays zones ids s low)) (Contains-push_cases [] s t first))
-      (λ same. subst Q same (next low)) (Contains-push_cases (s ∷ []) (f s) t h)
+      (λ same. subst Q same (next low)) (Contains-push_cases (s ∷ []) (f s) t h);
 }
 
 -- one that looks at the state

@@ -1,16 +1,14 @@
 -- Steps on zones and on the log leave held data zones alone.
-use Rattle.std.specs.Prelude.{◌≡◌, ◌≢◌, ℕ, zero, suc, ◌+◌, ◌%◌, ◌≤◌, ◌<◌, Bool, true, false, not, ◌&&◌, ◌||◌, ◌==◌, nat_lt, List, [], ◌∷◌, map, filter, drop, refl, if◌then◌else◌}
-use Rattle.std.specs.List.{AllByRecursion, enumerate_from}
-use Rattle.std.proofs.Common.{sym, ◌∙◌, ap, subst, arith}
+use Rattle.std.specs.Prelude.{◌≡◌, ◌≢◌, ℕ, zero, suc, ◌+◌, ◌%◌, ◌≤◌, ◌<◌, Bool, true, false, not, ◌&&◌, ◌==◌, nat_lt, List, [], ◌∷◌, filter, refl, if◌then◌else◌}
+use Rattle.std.specs.List.{AllByRecursion}
+use Rattle.std.proofs.Common.{sym, ap, subst, arith}
 use Rattle.log_model.specs.Headroom.{superblock_blocks, snapshot_blocks}
-use Rattle.fs_model.specs.declared.zones.Owner.TheVariants.{Idle}
-use Rattle.fs_model.specs.ZonePolicy.{Numbered, data_zones, is_idle, is_idle_owner, has_blocks}
-use Rattle.fs_model.specs.VictimPolicy.{is_resettable}
-use Rattle.fs_model.specs.FsState.{FsState, ZoneDescriptor, TableRow, descriptor_at, descriptor_in, on_descriptor, recorded, room_in, state_of, zone_states}
+use Rattle.fs_model.specs.ZonePolicy.{is_idle_owner}
+use Rattle.fs_model.specs.FsState.{FsState, ZoneDescriptor, descriptor_at, descriptor_in, on_descriptor, recorded, room_in}
 use Rattle.log_model.specs.declared.selection.Chosen.{Chosen}
-use Rattle.fs_model.specs.Trace.{step, ◌>>◌, from_state, when, each}
-use Rattle.fs_model.specs.LogSteps.{FsAction, NoValue, set_descriptor, after_append, append_blocks, finish_zone, reset_zone, set_owner, is_used, reset_if_used, finish_if_open, end_log, next_log, other_zones, roll_from, roll, must_roll, add_record, resettable_zones, reset_dead_zones}
-use Rattle.fs_model.specs.Untouched.{KeepsHeldZones, LeavesAlone, is_one_of}
+use Rattle.fs_model.specs.Trace.{step, from_state, when, each}
+use Rattle.fs_model.specs.LogSteps.{set_descriptor, after_append, append_blocks, finish_zone, reset_zone, is_used, reset_if_used, finish_if_open, end_log, next_log, other_zones, roll_from, roll, must_roll, add_record}
+use Rattle.fs_model.specs.Untouched.{is_one_of}
 use Rattle.fs_model.proofs.KeptStates.{Keeps, keeps_done, keeps_step, keeps_from, keeps_given, keeps_when, keeps_then, files_stay}
 
 -- a change of one zone leaves the others

@@ -1,13 +1,13 @@
 -- Operations that are never refused, and the few refusals of a deletion and of a commit.
-use Rattle.std.specs.Prelude.{◌≡◌, ◌⊎◌, ℕ, Bool, true, false, not, ◌&&◌, nat_lt, List, [], ◌∷◌, Option, Some, None, Result, Ok, Err, refl, if◌then◌else◌}
-use Rattle.std.proofs.Common.{sym, ◌∙◌, ap, inl, inr}
+use Rattle.std.specs.Prelude.{◌≡◌, ◌⊎◌, ℕ, Bool, true, false, not, ◌&&◌, nat_lt, List, [], ◌∷◌, Option, Some, None, Result, Ok, Err, refl}
+use Rattle.std.proofs.Common.{◌∙◌, ap, inl, inr}
 use Rattle.log_model.specs.Headroom.{blocks_of_record, superblock_blocks, snapshot_blocks}
 use Rattle.record_model.specs.declared.types.Record.TheVariants as records
 use Rattle.fs_model.specs.declared.error.FsError.{FsError}
 use Rattle.fs_model.specs.declared.error.FsError.TheVariants.{Gone, NotFound, SequenceEnd}
 use Rattle.fs_model.specs.FsState.{FsState, TableRow, row_of, row_named, on_row, descriptor_at, room_in, recorded}
-use Rattle.fs_model.specs.Trace.{Action, done, refuse, step, continue, ◌>>=◌, ◌>>◌, from_state, refuse_if, when, each}
-use Rattle.fs_model.specs.LogSteps.{FsAction, NoValue, set_descriptor, append_blocks, finish_zone, reset_zone, reset_if_used, finish_if_open, end_log, roll, roll_from, other_zones, next_log, add_record, refuse_sequence, reset_dead_zones, resettable_zones, is_used, must_roll, at_sequence_end, block_of, set_rows, set_row}
+use Rattle.fs_model.specs.Trace.{Action, step, continue, ◌>>◌, from_state, refuse_if, when, each}
+use Rattle.fs_model.specs.LogSteps.{append_blocks, reset_zone, reset_if_used, roll, roll_from, other_zones, next_log, add_record, refuse_sequence, reset_dead_zones, resettable_zones, is_used, must_roll, at_sequence_end, block_of}
 use Rattle.fs_model.specs.TreeSteps.{delete, delete_row, delete_by, drop_name}
 use Rattle.fs_model.specs.FileSteps.{commit, commit_blocks, commit_record, committed, or_gone, replace, replace_by, moved}
 use Rattle.fs_model.specs.declared.zones.Move.{Move}

@@ -1,6 +1,9 @@
 -- What operations leave alone: held zones and files that they don't name.
-use Rattle.std.specs.Prelude.{◌≡◌, ◌⊎◌, ⊤, ℕ, ◌≤◌, ◌<◌, Bool, true, false, List, [], ◌∷◌, ◌==◌, Contains}
+use Rattle.std.specs.Prelude.{◌≡◌, ◌⊎◌, ⊤, ℕ, ◌≤◌, ◌<◌, Bool, false, List, [], ◌∷◌, ◌==◌, Contains}
 use Rattle.std.specs.List.{list_any}
+use Rattle.fs_model.specs.declared.policy.Before.{Before}
+use Rattle.fs_model.specs.declared.policy.Before.TheVariants as befores
+use Rattle.fs_model.specs.declared.policy.Plan.{Plan}
 use Rattle.fs_model.specs.ZonePolicy.{is_idle_owner}
 use Rattle.fs_model.specs.FsState.{FsState, TableRow, descriptor_at}
 use Rattle.fs_model.specs.Trace.{intermediate_states}
@@ -32,6 +35,16 @@ KeepsFiles ids before (r ∷ rs) = (is_one_of ids r.entry.id ≡ false → WasTh
 abbrev pub KeepsHeldZones : List ℕ → FsState → FsState → Type 0
 KeepsHeldZones zones s t =
     (n : ℕ) → 3 ≤ n → is_one_of zones n ≡ false → is_idle_owner (descriptor_at s n).owner ≡ false → descriptor_at t n ≡ descriptor_at s n
+
+-- the zone that a plan finishes or gives back
+abbrev pub zones_before : Before → List ℕ
+zones_before befores.Nothing = []
+zones_before (befores.Finish zone) = zone ∷ []
+zones_before (befores.Release zone) = zone ∷ []
+
+-- the zones that a plan names
+abbrev pub zones_of_plan : Plan → List ℕ
+zones_of_plan p = p.victim ∷ p.dest ∷ zones_before p.before
 
 -- all but these zones and files is left alone
 pub record LeavesAlone (named_zones named_ids : List ℕ) (s t : FsState) : Type 0 where

@@ -3,6 +3,7 @@
 #![tactic(auto)]
 
 mod error;
+pub mod frames;
 pub mod laws;
 mod operations;
 mod policy;
