@@ -102,12 +102,16 @@ refuse_recovery_point s r = refuse_if (r.entry.sparse && must_roll s (recovery_p
 unfoldable pub recovery_point_fits : ℕ → FsAction NoValue
 recovery_point_fits id = with_row id (λ r. from_state (λ s. refuse_recovery_point s r))
 
--- a zone for a file's writer; a sparse file records its recovery point
-unfoldable pub take_zone : ℕ → FsAction ℕ
-take_zone id = with_row id (λ r. from_state (λ s.
+-- a zone for the writer of this file; a sparse file records its recovery point
+abbrev pub take_for : ℕ → TableRow → FsState → FsAction ℕ
+take_for id r s =
     refuse_recovery_point s r
     >> (take_chosen id r.entry.hint (choose_zone s.geometry (collects s) (zone_states s) r.entry.hint) >>= (λ zone.
-    record_recovery_point r zone >> done zone))))
+    record_recovery_point r zone >> done zone))
+
+-- a zone for a file's writer
+unfoldable pub take_zone : ℕ → FsAction ℕ
+take_zone id = with_row id (λ r. from_state (take_for id r))
 
 -- the last of the extents made longer, or the new one after them
 abbrev pub extents_with : List Extent → Extent → List Extent

@@ -1,8 +1,9 @@
 -- The steps of a migration, and settling.
-use Rattle.std.specs.Prelude.{ℕ, zero, suc, ◌+◌, ◌*◌, ◌-◌, ◌%◌, min, Bool, true, false, not, ◌&&◌, ◌||◌, List, [], ◌∷◌, ◌++◌, length, filter, Option, Some, None, is_none, nat_lt, ◌==◌, if◌then◌else◌}
+use Rattle.std.specs.Prelude.{ℕ, zero, suc, ◌+◌, ◌*◌, ◌-◌, ◌%◌, min, Bool, true, false, not, ◌&&◌, ◌||◌, List, [], ◌∷◌, ◌++◌, length, filter, Option, Some, None, is_none, Result, Ok, Err, nat_lt, ◌==◌, if◌then◌else◌}
 use Rattle.std.specs.List.{list_any}
 use Rattle.zone_image.specs.Image.{zone_of}
 use Rattle.record_model.specs.declared.types.Extent.{Extent}
+use Rattle.fs_model.specs.declared.error.FsError.{FsError}
 use Rattle.fs_model.specs.declared.zones.Move.{Move}
 use Rattle.fs_model.specs.declared.policy.Plan.{Plan}
 use Rattle.fs_model.specs.ZonePolicy.{first, total_blocks}
@@ -180,6 +181,16 @@ retired_after _ n = n
 abbrev pub rounds : ℕ → ℕ → CollectorAction ℕ
 rounds zero n = done n
 rounds (suc k) n = round >>= (λ r. if is_nothing r then done n else rounds k (retired_after r n))
+
+-- the rounds end here: the collector is refused, or has nothing to do, or they end later
+abbrev pub ends_with : Result Round FsError → Bool → Bool
+ends_with (Err e) later = true
+ends_with (Ok r) later = is_nothing r || later
+
+-- whether so many rounds are enough
+abbrev pub are_enough : ℕ → Collecting → Bool
+are_enough zero s = false
+are_enough (suc k) s = ends_with (round s).answer (are_enough k (round s).last)
 
 -- a migration has at most two rounds for each of its blocks and two more, and each one frees a block
 abbrev pub round_bound : FsState → ℕ

@@ -41,14 +41,17 @@ new_entry id name hint sparse now = record {
 abbrev pub new_row : FileEntry → TableRow
 new_row e = record { entry = e; unrecorded = []; shown = 0 }
 
--- makes a file, and answers its id
-unfoldable pub create : List ℕ → ℕ → Bool → ℕ → FsAction ℕ
-create name hint sparse now = from_state (λ s.
+-- a new file of this name and entry
+abbrev pub create_entry : FsState → List ℕ → FileEntry → FsAction ℕ
+create_entry s name e =
     refuse_if (is_some (row_named name s.rows)) Exists
     >> refuse_if (s.greatest == 2 ^ 64 - 2) IdsEnd
-    >> change_rows s (records.Update (new_entry (s.greatest + 1) name hint sparse now))
-    (s.rows ++ new_row (new_entry (s.greatest + 1) name hint sparse now) ∷ []) (s.greatest + 1)
-    >> done (s.greatest + 1))
+    >> change_rows s (records.Update e) (s.rows ++ new_row e ∷ []) e.id
+    >> done e.id
+
+-- makes a file, and answers its id
+unfoldable pub create : List ℕ → ℕ → Bool → ℕ → FsAction ℕ
+create name hint sparse now = from_state (λ s. create_entry s name (new_entry (s.greatest + 1) name hint sparse now))
 
 -- the row with these names
 abbrev pub with_names : List (List ℕ) → TableRow → TableRow

@@ -4,7 +4,7 @@ use Rattle.std.specs.Int.{div_ceil}
 use Rattle.record_model.specs.declared.types.Extent.{Extent}
 use Rattle.fs_model.specs.declared.error.FsError.TheVariants.{Gone}
 use Rattle.fs_model.specs.FsState.{FsState, TableRow, room_in, next_address, row_of}
-use Rattle.fs_model.specs.Trace.{Action, done, step, ◌>>=◌, ◌>>◌, from_state, refuse_if, when, on_part}
+use Rattle.fs_model.specs.Trace.{Action, done, step, ◌>>=◌, ◌>>◌, from_state, refuse_if, when, repeat, on_part}
 use Rattle.fs_model.specs.FileSteps as file_steps
 use Rattle.fs_model.specs.LogSteps as log_steps
 use Rattle.fs_model.specs.LogSteps.{FsAction, NoValue}
@@ -224,8 +224,7 @@ append_byte now = from_state (λ s. if s.writer.sparse then append_sparse now el
 
 -- so many bytes one by one, so it doesn't matter how they are split into calls
 abbrev pub append_bytes : ℕ → ℕ → WriterAction NoValue
-append_bytes zero now = done tt
-append_bytes (suc n) now = append_byte now >> append_bytes n now
+append_bytes n now = repeat n (append_byte now)
 
 -- an append; it is refused where the file is gone, even if it has no bytes
 abbrev pub append : ℕ → ℕ → WriterAction NoValue

@@ -3,6 +3,8 @@
 #![tactic(auto)]
 
 mod error;
+pub mod frames;
+pub mod laws;
 mod operations;
 mod policy;
 mod zones;

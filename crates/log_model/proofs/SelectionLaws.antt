@@ -32,14 +32,14 @@ skipped_zone_has_no_log g zone c cs none ok =
     ∙ given_on (logs_from g (zone + 1) cs)
 
 -- the logs that count, without one that doesn't
-uncounted_goes : (before after : List LogAt) (log : LogAt) → counts log ≡ false → filter counts (before ++ log ∷ after) ≡ filter counts (before ++ after)
+pub uncounted_goes : (before after : List LogAt) (log : LogAt) → counts log ≡ false → filter counts (before ++ log ∷ after) ≡ filter counts (before ++ after)
 uncounted_goes before after log h =
     filter-append counts before (log ∷ after)
     ∙ (ap (λ b. filter counts before ++ cond b (log ∷ filter counts after) (filter counts after)) h
     ∙ sym (filter-append counts before after))
 
 -- the logs that count, with one that does
-counted_stays : (before after : List LogAt) (log : LogAt) → counts log ≡ true
+pub counted_stays : (before after : List LogAt) (log : LogAt) → counts log ≡ true
     → filter counts (before ++ log ∷ after) ≡ filter counts before ++ log ∷ filter counts after
 counted_stays before after log h =
     filter-append counts before (log ∷ after)
@@ -49,36 +49,32 @@ pub passed_over_may_go : PassedOverMayGo
 passed_over_may_go before after log h = ap (λ logs. undamaged (newest logs)) (uncounted_goes before after log h)
 
 -- the sequence of a log, if there is one
-sequence_of : Option LogAt → ℕ
+abbrev pub sequence_of : Option LogAt → ℕ
 sequence_of None = 0
 sequence_of (Some log) = log.superblock.sequence
 
 -- the newer one where the test is known
 chosen_sequence : (lower : Bool) (log other : LogAt) → nat_lt log.superblock.sequence other.superblock.sequence ≡ lower
     → sequence_of (cond lower (Some other) (Some log)) ≡ max log.superblock.sequence other.superblock.sequence
-unfolding sequence_of
 chosen_sequence true log other h = omega (arith, ltb-true log.superblock.sequence other.superblock.sequence h)
 chosen_sequence false log other h = omega (arith, ltb-false log.superblock.sequence other.superblock.sequence h)
 
 -- the newer of two has the greater sequence
 newer_sequence : (log : LogAt) (o : Option LogAt) → sequence_of (newer log o) ≡ max log.superblock.sequence (sequence_of o)
-unfolding sequence_of
 newer_sequence log None = omega arith
 newer_sequence log (Some other) = chosen_sequence _ log other refl
 
 -- the newest log has the greatest sequence
-newest_sequence : (logs : List LogAt) → sequence_of (newest logs) ≡ greatest_sequence logs
-unfolding sequence_of
+pub newest_sequence : (logs : List LogAt) → sequence_of (newest logs) ≡ greatest_sequence logs
 newest_sequence [] = refl
 newest_sequence (log ∷ logs) = newer_sequence log (newest logs) ∙ ap (λ n. max log.superblock.sequence n) (newest_sequence logs)
 
 -- a log of a lower sequence isn't the newer one
-newer_is_other : (log other : LogAt) → log.superblock.sequence < other.superblock.sequence → newer log (Some other) ≡ Some other
+pub newer_is_other : (log other : LogAt) → log.superblock.sequence < other.superblock.sequence → newer log (Some other) ≡ Some other
 newer_is_other log other h = ap (λ b. cond b (Some other) (Some log)) (lt-ltb log.superblock.sequence other.superblock.sequence h)
 
 -- a log of no lower sequence is
-newer_is_first : (log : LogAt) (o : Option LogAt) → sequence_of o ≤ log.superblock.sequence → newer log o ≡ Some log
-unfolding sequence_of
+pub newer_is_first : (log : LogAt) (o : Option LogAt) → sequence_of o ≤ log.superblock.sequence → newer log o ≡ Some log
 newer_is_first log None h = refl
 newer_is_first log (Some other) h = ap (λ b. cond b (Some other) (Some log)) (le-ltb log.superblock.sequence other.superblock.sequence h)
 
@@ -105,7 +101,7 @@ greatest_filter [] = omega arith
 greatest_filter (log ∷ logs) = greatest_either (counts log) (filter counts logs) log (greatest_sequence logs) (greatest_filter logs)
 
 -- a log with a snapshot is selected where it is the newest
-selected_when_newest : (o : Option LogAt) (log : LogAt) → o ≡ Some log → has_snapshot log ≡ Ok true → undamaged o ≡ Ok log
+pub selected_when_newest : (o : Option LogAt) (log : LogAt) → o ≡ Some log → has_snapshot log ≡ Ok true → undamaged o ≡ Ok log
 selected_when_newest o log is h = ap undamaged is ∙ ap (λ r. r >>= (λ there. Ok log)) h
 
 pub newest_is_selected : NewestIsSelected
@@ -116,7 +112,7 @@ newest_is_selected before after log h above =
     (ap newest (counted_stays before after log (ap decides h)) ∙ newest_at (filter counts before) (filter counts after) log below) h
 
 -- the log that an undamaged one is
-undamaged_is : (o : Option LogAt) (log : LogAt) → undamaged o ≡ Ok log → o ≡ Some log
+pub undamaged_is : (o : Option LogAt) (log : LogAt) → undamaged o ≡ Ok log → o ≡ Some log
 undamaged_is None log h = cc
 undamaged_is (Some other) log h = ap Some (read_back (has_snapshot other) other log h)
   where
@@ -125,7 +121,7 @@ undamaged_is (Some other) log h = ap Some (read_back (has_snapshot other) other 
     read_back (Err why) other log h = cc
 
 -- what stands in a Some
-some_is : {A : Type 0} {x y : A} → Some x ≡ Some y → x ≡ y
+pub some_is : {A : Type 0} {x y : A} → Some x ≡ Some y → x ≡ y
 some_is h = cc
 
 -- the one or the other of two logs
@@ -137,14 +133,13 @@ newer_split true log other it test h =
 newer_split false log other it test h = inr (some_is h, ltb-false log.superblock.sequence other.superblock.sequence test)
 
 -- where the newer of two is this log, it is the one or the other
-newer_cases : (log : LogAt) (o : Option LogAt) (it : LogAt) → newer log o ≡ Some it
+pub newer_cases : (log : LogAt) (o : Option LogAt) (it : LogAt) → newer log o ≡ Some it
     → ((o ≡ Some it) × (log.superblock.sequence < it.superblock.sequence)) ⊎ ((log ≡ it) × (sequence_of o ≤ log.superblock.sequence))
-unfolding sequence_of
 newer_cases log None it h = inr (some_is h, omega arith)
 newer_cases log (Some other) it h = newer_split (nat_lt log.superblock.sequence other.superblock.sequence) log other it refl h
 
 -- the newest log is this one, or it is the newest without it
-newest_without : (before after : List LogAt) (other log : LogAt) → newest (before ++ other ∷ after) ≡ Some log
+pub newest_without : (before after : List LogAt) (other log : LogAt) → newest (before ++ other ∷ after) ≡ Some log
     → (other ≡ log) ⊎ (newest (before ++ after) ≡ Some log)
 newest_without [] after other log is = ⊎_elim (λ h. inr h.0) (λ h. inl h.0) (newer_cases other (newest after) log is)
 newest_without (b ∷ before) after other log is =

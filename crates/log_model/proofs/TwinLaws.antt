@@ -1,5 +1,5 @@
 -- Logs that come and go without two of one sequence.
-use Rattle.std.specs.Prelude.{◌≡◌, ℕ, ◌<◌, Bool, true, false, cond, List, [], ◌∷◌, ◌++◌, Option, Some, None, ◌==◌, refl}
+use Rattle.std.specs.Prelude.{◌≡◌, ℕ, ◌<◌, Bool, true, false, ◌||◌, cond, List, [], ◌∷◌, ◌++◌, Option, Some, None, ◌==◌, refl}
 use Rattle.std.proofs.Common.{◌∙◌, ap, sym, append_assoc, arith}
 use Rattle.std.proofs.lemmas.Bool.{ne_eqb, or_parts, or_from}
 use Rattle.std.proofs.lemmas.List.{append-nil}
@@ -90,3 +90,34 @@ fewer_have_no_twin before after log h = fewer_behind [] before after log h
 
 pub higher_has_no_twin : HigherHasNoTwin
 higher_has_no_twin before after log h above = higher_behind [] before after log (omega arith) above h
+
+-- a log of the same sequence in place of another has the same
+same_sequence : (n : ℕ) (before after : List LogAt) (log it : LogAt) → it.superblock.sequence ≡ log.superblock.sequence
+    → has_sequence n (before ++ it ∷ after) ≡ has_sequence n (before ++ log ∷ after)
+unfolding has_sequence
+same_sequence n before after log it same =
+    list_any-append (λ l. l.superblock.sequence == n) before (it ∷ after)
+    ∙ (ap (λ m. has_sequence n before || ((m == n) || has_sequence n after)) same ∙ sym (list_any-append (λ l. l.superblock.sequence == n) before (log ∷ after)))
+
+-- it leaves no later one a twin
+replaced_earlier : (before after : List LogAt) (log it : LogAt) (logs : List LogAt) → it.superblock.sequence ≡ log.superblock.sequence
+    → twin (before ++ log ∷ after) logs ≡ None → twin (before ++ it ∷ after) logs ≡ None
+unfolding has_sequence
+replaced_earlier before after log it [] same h = refl
+replaced_earlier before after log it (l ∷ ls) same h =
+    let here = no_twin_parts (has_sequence l.superblock.sequence (before ++ log ∷ after)) l (twin ((before ++ log ∷ after) ++ l ∷ []) ls) h in
+    let moved : twin (before ++ log ∷ (after ++ l ∷ [])) ls ≡ None = ap (λ e. twin e ls) (sym (append_assoc before (log ∷ after) (l ∷ []))) ∙ here.1 in
+    ap (λ b. cond b (Some l) (twin ((before ++ it ∷ after) ++ l ∷ []) ls)) (same_sequence l.superblock.sequence before after log it same ∙ here.0)
+    ∙ (ap (λ e. twin e ls) (append_assoc before (it ∷ after) (l ∷ [])) ∙ replaced_earlier before (after ++ l ∷ []) log it ls same moved)
+
+-- nor is it one
+pub replaced_behind : (earlier before after : List LogAt) (log it : LogAt) → it.superblock.sequence ≡ log.superblock.sequence
+    → twin earlier (before ++ log ∷ after) ≡ None → twin earlier (before ++ it ∷ after) ≡ None
+unfolding has_sequence
+replaced_behind earlier [] after log it same h =
+    let here = no_twin_parts (has_sequence log.superblock.sequence earlier) log (twin (earlier ++ log ∷ []) after) h in
+    ap (λ n. cond (has_sequence n earlier) (Some it) (twin (earlier ++ it ∷ []) after)) same
+    ∙ (ap (λ t. cond t (Some it) (twin (earlier ++ it ∷ []) after)) here.0 ∙ replaced_earlier earlier [] log it after same here.1)
+replaced_behind earlier (b ∷ before) after log it same h =
+    let here = no_twin_parts (has_sequence b.superblock.sequence earlier) b (twin (earlier ++ b ∷ []) (before ++ log ∷ after)) h in
+    ap (λ t. cond t (Some b) (twin (earlier ++ b ∷ []) (before ++ it ∷ after))) here.0 ∙ replaced_behind (earlier ++ b ∷ []) before after log it same here.1

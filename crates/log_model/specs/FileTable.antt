@@ -30,9 +30,13 @@ with_entry e (f ∷ fs) = if nat_lt e.id f.id then e ∷ f ∷ fs else if e.id =
 abbrev pub is_among : List (List ℕ) → List ℕ → Bool
 is_among names name = list_any (λ n. bytes_eq n name) names
 
+-- the names that aren't among those taken
+abbrev pub names_left : List (List ℕ) → List (List ℕ) → List (List ℕ)
+names_left taken names = filter (λ n. not (is_among taken n)) names
+
 -- the entry without these names
 abbrev pub without_names : List (List ℕ) → FileEntry → FileEntry
-without_names names e = record e { names = filter (λ n. not (is_among names n)) e.names }
+without_names taken e = record e { names = names_left taken e.names }
 
 -- an entry that has a name
 abbrev pub is_named : FileEntry → Bool

@@ -2,10 +2,12 @@ pub mod LogScan
 pub mod ScanLaws
 pub mod LogSelection
 pub mod SelectionLaws
+pub mod LogChangeLaws
 pub mod FileTable
 pub mod Frames
 pub mod Mounted
 pub mod MountLaws
+pub mod TableLaws
 pub mod FileTree
 pub mod Headroom
 pub mod Format

@@ -131,13 +131,16 @@ abbrev pub greatest_sequence : List LogAt → ℕ
 greatest_sequence [] = 0
 greatest_sequence (log ∷ logs) = max log.superblock.sequence (greatest_sequence logs)
 
--- the log that counts, and the highest sequence, of the scans of the metadata zones
-unfoldable pub select_log : Geometry → List Scan → Result (LogAt × ℕ) Refusal
-select_log g scans = do
-  found ← logs_from g 0 scans
+-- the log that counts among these, and the highest sequence
+abbrev pub select_among : List LogAt → Result (LogAt × ℕ) Refusal
+select_among found = do
   logs ← no_twin found (twin [] found)
   log ← current_log logs
   Ok (log, greatest_sequence logs)
+
+-- the log that counts, and the highest sequence, of the scans of the metadata zones
+unfoldable pub select_log : Geometry → List Scan → Result (LogAt × ℕ) Refusal
+select_log g scans = logs_from g 0 scans >>= select_among
 
 -- a log as it is chosen
 abbrev pub chosen_of : LogAt × ℕ → Chosen

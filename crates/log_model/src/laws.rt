@@ -8,6 +8,22 @@ ghost use Rattle.log_model.specs.ScanLaws.{
   PartIsTorn,
 };
 ghost use Rattle.log_model.specs.MountLaws.{MountReadsBlocks, FrontHasFirstFrames, FramesStayInOrder};
+ghost use Rattle.log_model.specs.LogChangeLaws.{
+  TornZoneIsAsEmpty,
+  OtherZoneMayBeEmptied,
+  BegunLogIsPassedOver,
+  CompleteLogIsSelected,
+  SelectedLogMayGrow,
+};
+ghost use Rattle.log_model.specs.TableLaws.{
+  CreateIsReplayed,
+  LinkIsReplayed,
+  RenameIsReplayed,
+  RenameOverIsReplayed,
+  DeleteIsReplayed,
+  GrowIsReplayed,
+  ReplaceKeepsTree,
+};
 ghost use Rattle.log_model.specs.SelectionLaws.{
   SkippedZoneHasNoLog,
   PassedOverMayGo,
@@ -101,4 +117,64 @@ pub fn front_has_first_frames()
 /// Where a zone keeps its first blocks, the frames from an address in it are the first of those that were there.
 pub fn frames_stay_in_order()
     ensures { FramesStayInOrder }
+{}
+
+/// A metadata zone whose first record is torn counts as an empty one.
+pub fn torn_zone_is_as_empty()
+    ensures { TornZoneIsAsEmpty }
+{}
+
+/// A metadata zone other than the selected log's may be emptied: the same log is selected.
+pub fn other_zone_may_be_emptied()
+    ensures { OtherZoneMayBeEmptied }
+{}
+
+/// A log of a new highest sequence in an empty zone is passed over as long as it has no snapshot.
+pub fn begun_log_is_passed_over()
+    ensures { BegunLogIsPassedOver }
+{}
+
+/// A log of a new highest sequence in an empty zone is selected once it has its snapshot.
+pub fn complete_log_is_selected()
+    ensures { CompleteLogIsSelected }
+{}
+
+/// The selected log may get more payloads, and it may end torn: it stays selected.
+pub fn selected_log_may_grow()
+    ensures { SelectedLogMayGrow }
+{}
+
+/// The update of a new file, replayed, creates it in the tree.
+pub fn create_is_replayed()
+    ensures { CreateIsReplayed }
+{}
+
+/// The update with one more name, replayed, links it in the tree.
+pub fn link_is_replayed()
+    ensures { LinkIsReplayed }
+{}
+
+/// The update with a free name in place of another, replayed, renames it in the tree.
+pub fn rename_is_replayed()
+    ensures { RenameIsReplayed }
+{}
+
+/// The update with another file's name in place of one, replayed, renames over that file in the tree.
+pub fn rename_over_is_replayed()
+    ensures { RenameOverIsReplayed }
+{}
+
+/// A deletion, replayed, takes the name out of the tree.
+pub fn delete_is_replayed()
+    ensures { DeleteIsReplayed }
+{}
+
+/// An update with more extents, replayed, grows the file in the tree.
+pub fn grow_is_replayed()
+    ensures { GrowIsReplayed }
+{}
+
+/// A replacement by extents of the same bytes, replayed, leaves the tree as it is.
+pub fn replace_keeps_tree()
+    ensures { ReplaceKeepsTree }
 {}

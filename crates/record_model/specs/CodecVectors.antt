@@ -1,5 +1,5 @@
 -- Vectors of the formats, computed.
-use Rattle.std.specs.Prelude.{◌≡◌, ◌-◌, ◌^◌, true, false, [], ◌∷◌, length, replicate, codes, Ok, Err, refl}
+use Rattle.std.specs.Prelude.{◌≡◌, ◌-◌, ◌^◌, true, false, [], ◌∷◌, length, codes, Ok, Err, refl}
 use Rattle.record_model.specs.Name.{is_name}
 use Rattle.record_model.specs.Numbers.{varint}
 use Rattle.record_model.specs.Encoding.{payload_of, entry_bytes}

@@ -2,12 +2,15 @@
 use Rattle.std.specs.Prelude.{ℕ, zero, suc, ◌-◌, ◌^◌, List, [], ◌∷◌, ◌++◌, length, filter_map, Option, Some, None, unwrap_or, Result, Ok, Err, nat_lt, ◌==◌, if◌then◌else◌}
 use Rattle.std.specs.Int.{w32, w64}
 use Rattle.record_model.specs.Name.{is_name}
-use Rattle.record_model.specs.Encoding.{Field, tag_of}
-use Rattle.record_model.specs.Encoding.Field.{Id, Size, Hint, Piece, Time, Active, Linked}
+use Rattle.record_model.specs.Encoding.{tag_of}
+use Rattle.record_model.specs.declared.field.Field.{Field}
+use Rattle.record_model.specs.declared.field.Field.TheVariants.{Id, Size, Hint, Piece, Time, Active, Linked}
 use Rattle.record_model.specs.declared.types.Extent.{Extent}
 use Rattle.record_model.specs.declared.types.FileEntry.{FileEntry}
 use Rattle.record_model.specs.declared.types.Record.{Record}
 use Rattle.record_model.specs.declared.types.Record.TheVariants.{Snapshot, Update, Deletion, End, Replace}
+use Rattle.record_model.specs.declared.field.RecordKind.{RecordKind}
+use Rattle.record_model.specs.declared.field.RecordKind.TheVariants as kinds
 use Rattle.record_model.specs.declared.fault.DecodeFault.{DecodeFault}
 use Rattle.record_model.specs.declared.fault.Why.TheVariants.{Tag, Missing, Range}
 use Rattle.record_model.specs.FieldDecoding.{Cursor, at_place, number, slice_at, ranged, has_tag, fields_at, ◌>>=◌}
@@ -22,9 +25,13 @@ number_of (Active n) = Some n
 number_of _ = None
 
 -- the number of the first field with this tag
+abbrev pub number_in : ℕ → List Field → Option ℕ
+number_in tag [] = None
+number_in tag (f ∷ fs) = if tag_of f == tag then number_of f else number_in tag fs
+
+-- the number of a field that is there
 abbrev pub first_number : ℕ → List Field → ℕ
-first_number tag [] = 0
-first_number tag (f ∷ fs) = if tag_of f == tag then unwrap_or (number_of f) 0 else first_number tag fs
+first_number tag fs = unwrap_or (number_in tag fs) 0
 
 -- the extent of a field
 abbrev pub piece_of : Field → Option Extent
@@ -69,18 +76,26 @@ entry_at c = do
   fs ← fields_at (length c.rest) [] c
   complete c.at fs (missing_from required_tags fs)
 
--- the bytes of a slice, from the place where they begin
-abbrev pub inside : Cursor → List ℕ × Cursor → Cursor
-inside c s = record { at = s.1.at - length s.0; rest = s.0 }
+-- the inside of the slice here, and the place behind it
+abbrev pub inside_at : Cursor → Result (Cursor × Cursor) DecodeFault
+inside_at c = do
+  s ← at_place c.at (slice_at c)
+  Ok (record { at = s.1.at - length s.0; rest = s.0 }, s.1)
 
--- slices to the end of the bytes, each an entry
+-- an entry that is the inside of a slice, and the place behind it
+abbrev pub sliced_entry_at : Cursor → Result (FileEntry × Cursor) DecodeFault
+sliced_entry_at c = do
+  s ← inside_at c
+  e ← entry_at s.0
+  Ok (e, s.1)
+
+-- slices to the end of the bytes, each an entry, behind those that were seen; each takes a byte, so k bounds them
 abbrev pub entries_at : ℕ → List FileEntry → Cursor → Result (List FileEntry) DecodeFault
 entries_at zero seen c = Ok seen
 entries_at (suc k) seen c =
     if length c.rest == 0 then Ok seen else (do
-      s ← at_place c.at (slice_at c)
-      e ← entry_at (inside c s)
-      entries_at k (seen ++ e ∷ []) s.1)
+      e ← sliced_entry_at c
+      entries_at k (seen ++ e.0 ∷ []) e.1)
 
 -- nothing may follow
 abbrev pub ended : {A : Type 0} → A → Cursor → Result A DecodeFault
@@ -95,25 +110,17 @@ deletion_at c = do
   name ← at_place id.1.at (ranged (is_name s.0) s.0)
   ended (Deletion known name) s.1
 
--- what a record's tag stands for
-pub data Shape : Type 0 where
-  ASnapshot : Shape
-  AnUpdate : Shape
-  ADeletion : Shape
-  AnEnd : Shape
-  AReplacement : Shape
-
--- the record of a tag
-abbrev pub shape_of : ℕ → Option Shape
-shape_of tag =
-    if tag == 1 then Some ASnapshot else if tag == 2 then Some AnUpdate else if tag == 3 then Some ADeletion
-    else if tag == 4 then Some AnEnd else if tag == 5 then Some AReplacement else None
+-- the kind of record that has this tag
+abbrev pub record_kind_of : ℕ → Option RecordKind
+record_kind_of tag =
+    if tag == 1 then Some kinds.Snapshot else if tag == 2 then Some kinds.Update else if tag == 3 then Some kinds.Deletion
+    else if tag == 4 then Some kinds.End else if tag == 5 then Some kinds.Replace else None
 
 -- one slice, read by f, and nothing behind it
 abbrev pub sliced : (Cursor → Result Record DecodeFault) → Cursor → Result Record DecodeFault
 sliced f c = do
-  s ← at_place c.at (slice_at c)
-  r ← f (inside c s)
+  s ← inside_at c
+  r ← f s.0
   ended r s.1
 
 -- a snapshot
@@ -135,16 +142,16 @@ replacement_at c = do
   Ok (Replace e)
 
 -- the record behind a tag
-abbrev pub record_with : ℕ → Option Shape → Cursor → Result Record DecodeFault
+abbrev pub record_with : ℕ → Option RecordKind → Cursor → Result Record DecodeFault
 record_with tag None c = Err (record { at = 0; why = Tag tag })
-record_with tag (Some ASnapshot) c = sliced snapshot_at c
-record_with tag (Some AnUpdate) c = sliced update_at c
-record_with tag (Some ADeletion) c = sliced deletion_at c
-record_with tag (Some AnEnd) c = ended End c
-record_with tag (Some AReplacement) c = sliced replacement_at c
+record_with tag (Some kinds.Snapshot) c = sliced snapshot_at c
+record_with tag (Some kinds.Update) c = sliced update_at c
+record_with tag (Some kinds.Deletion) c = sliced deletion_at c
+record_with tag (Some kinds.End) c = ended End c
+record_with tag (Some kinds.Replace) c = sliced replacement_at c
 
 -- the record that a payload spells, or its first fault from the left
 unfoldable pub record_of : List ℕ → Result Record DecodeFault
 record_of payload = do
   tag ← at_place 0 (number w32 (record { at = 0; rest = payload }))
-  record_with tag.0 (shape_of tag.0) tag.1
+  record_with tag.0 (record_kind_of tag.0) tag.1

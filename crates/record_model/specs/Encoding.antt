@@ -1,7 +1,10 @@
 -- How records are written.
 use Rattle.std.specs.Prelude.{ℕ, List, [], ◌∷◌, ◌++◌, length, map, flat_map, if◌then◌else◌}
 use Rattle.record_model.specs.Numbers.{u32, u64, varint}
-use Rattle.record_model.specs.declared.types.Extent.{Extent}
+use Rattle.record_model.specs.declared.field.Field.{Field}
+use Rattle.record_model.specs.declared.field.FieldKind.{FieldKind}
+use Rattle.record_model.specs.declared.field.FieldKind.TheVariants as kinds
+use Rattle.record_model.specs.declared.field.Field.TheVariants.{Id, Size, Hint, Piece, Time, Active, Sparse, Linked}
 use Rattle.record_model.specs.declared.types.FileEntry.{FileEntry}
 use Rattle.record_model.specs.declared.types.Record.{Record}
 use Rattle.record_model.specs.declared.types.Record.TheVariants.{Snapshot, Update, Deletion, End, Replace}
@@ -9,17 +12,6 @@ use Rattle.record_model.specs.declared.types.Record.TheVariants.{Snapshot, Updat
 -- a length, and that many bytes
 abbrev pub slice : List ℕ → List ℕ
 slice bytes = varint (length bytes) ++ bytes
-
--- one field of an entry
-pub data Field : Type 0 where
-  Id : (n : ℕ) → Field
-  Size : (n : ℕ) → Field
-  Hint : (n : ℕ) → Field
-  Piece : (e : Extent) → Field
-  Time : (n : ℕ) → Field
-  Active : (n : ℕ) → Field
-  Sparse : Field
-  Linked : (name : List ℕ) → Field
 
 -- the tag of a field
 abbrev pub tag_of : Field → ℕ
@@ -31,6 +23,17 @@ tag_of (Time n) = 6
 tag_of (Active n) = 7
 tag_of Sparse = 8
 tag_of (Linked name) = 9
+
+-- the tag of a kind of field
+abbrev pub kind_tag : FieldKind → ℕ
+kind_tag kinds.Id = 1
+kind_tag kinds.Size = 3
+kind_tag kinds.Hint = 4
+kind_tag kinds.Piece = 5
+kind_tag kinds.Time = 6
+kind_tag kinds.Active = 7
+kind_tag kinds.Sparse = 8
+kind_tag kinds.Linked = 9
 
 -- the bytes of a field's value
 abbrev pub value_bytes : Field → List ℕ

@@ -1,12 +1,15 @@
 -- Reading the fields of an entry from left to right, to the first fault.
-use Rattle.std.specs.Prelude.{ℕ, zero, suc, ◌+◌, ◌*◌, ◌-◌, ◌^◌, Bool, true, false, not, ◌&&◌, ◌||◌, List, [], ◌∷◌, ◌++◌, length, take, drop, Option, Some, None, Result, Ok, Err, nat_lt, nat_le, ◌==◌, if◌then◌else◌}
+use Rattle.std.specs.Prelude.{ℕ, zero, suc, ◌+◌, ◌*◌, ◌-◌, ◌^◌, Bool, false, not, ◌&&◌, ◌||◌, List, [], ◌∷◌, ◌++◌, length, take, drop, Option, Some, None, Result, Ok, Err, nat_lt, nat_le, ◌==◌, if◌then◌else◌}
 use Rattle.std.specs.List.{list_any}
 use Rattle.std.specs.Str.{bytes_eq}
 use Rattle.std.specs.Int.{Width, w32, w64, byte_len, from_le_bytes}
 use Rattle.record_model.specs.Name.{is_name}
 use Rattle.record_model.specs.Numbers.{varint}
-use Rattle.record_model.specs.Encoding.{Field, tag_of}
-use Rattle.record_model.specs.Encoding.Field.{Id, Size, Hint, Piece, Time, Active, Sparse, Linked}
+use Rattle.record_model.specs.Encoding.{tag_of}
+use Rattle.record_model.specs.declared.field.Field.{Field}
+use Rattle.record_model.specs.declared.field.FieldKind.{FieldKind}
+use Rattle.record_model.specs.declared.field.FieldKind.TheVariants as kinds
+use Rattle.record_model.specs.declared.field.Field.TheVariants.{Id, Size, Hint, Piece, Time, Active, Sparse, Linked}
 use Rattle.record_model.specs.declared.types.Extent.{Extent}
 use Rattle.record_model.specs.declared.fault.DecodeFault.{DecodeFault}
 use Rattle.record_model.specs.declared.fault.Why.{Why}
@@ -52,17 +55,17 @@ abbrev pub varint_at : List ℕ → Option (ℕ × ℕ)
 varint_at [] = None
 varint_at (b ∷ bs) = if nat_lt b 128 then Some (b, 1) else behind_byte b (varint_at bs)
 
--- a slice whose length is this varint
-abbrev pub slice_with : Cursor → Option (ℕ × ℕ) → Reads (List ℕ)
-slice_with c None = Err Short
-slice_with c (Some v) =
-    if nat_le (2 ^ 32) v.0 || not (length (varint v.0) == v.1) then Err Range
-    else if nat_lt (length c.rest) (v.1 + v.0) then Err Short
-    else Ok (take v.0 (drop v.1 c.rest), advance (v.1 + v.0) c)
+-- the length that a varint states, in the shortest form and below 2 ^ 32, and how many bytes it takes
+abbrev pub length_in : Option (ℕ × ℕ) → Result (ℕ × ℕ) Why
+length_in None = Err Short
+length_in (Some v) = if nat_le (2 ^ 32) v.0 || not (length (varint v.0) == v.1) then Err Range else Ok v
 
--- a slice: its length in the shortest form and below 2 ^ 32, and that many bytes
+-- a slice: its length, and that many bytes
 unfoldable pub slice_at : Cursor → Reads (List ℕ)
-slice_at c = slice_with c (varint_at c.rest)
+slice_at c = do
+  v ← length_in (varint_at c.rest)
+  if nat_lt (length c.rest) (v.1 + v.0) then Err Short
+      else Ok (take v.0 (drop v.1 c.rest), advance (v.1 + v.0) c)
 
 -- a value in its range
 abbrev pub ranged : {A : Type 0} → Bool → A → Result A Why
@@ -72,71 +75,79 @@ ranged ok x = if ok then Ok x else Err Range
 abbrev pub has_tag : ℕ → List Field → Bool
 has_tag tag fields = list_any (λ f. tag_of f == tag) fields
 
--- a field that stands once may not come again
-abbrev pub once : ℕ → List Field → Result ℕ Why
-once tag seen = if has_tag tag seen then Err (Twice tag) else Ok tag
+-- what may stand once, where it is there already
+abbrev pub once : ℕ → Bool → Result ℕ Why
+once tag there = if there then Err (Twice tag) else Ok tag
 
 -- a field with this name
 abbrev pub is_linked : List ℕ → Field → Bool
 is_linked name (Linked other) = bytes_eq name other
 is_linked name _ = false
 
--- a name may not come again
-abbrev pub once_named : List ℕ → List Field → Result ℕ Why
-once_named name seen = if list_any (is_linked name) seen then Err (Twice 9) else Ok 9
+-- a field with this name is there
+abbrev pub has_name : List ℕ → List Field → Bool
+has_name name fields = list_any (is_linked name) fields
 
--- a field of one number
-abbrev pub number_field : Width → (ℕ → Field) → ℕ → (ℕ → Bool) → List Field → Cursor → Reads Field
-number_field w make tag in_range seen c = do
+-- a number that may stand once
+abbrev pub single : Width → ℕ → Bool → Cursor → Reads ℕ
+single w tag there c = do
   n ← number w c
-  t ← once tag seen
-  v ← ranged (in_range n.0) n.0
-  Ok (make v, n.1)
+  t ← once tag there
+  Ok n
 
 -- an extent of sixteen bytes
 abbrev pub extent_of : List ℕ → Extent
 extent_of bytes = record { start = from_le_bytes w64 (take 8 bytes); len = from_le_bytes w64 (drop 8 bytes) }
 
--- what a field's tag stands for
-pub data Kind : Type 0 where
-  AnId : Kind
-  ASize : Kind
-  AHint : Kind
-  APiece : Kind
-  ATime : Kind
-  AnActive : Kind
-  ASparse : Kind
-  ALinked : Kind
-
--- the field of a tag
-abbrev pub kind_of : ℕ → Option Kind
-kind_of tag =
-    if tag == 1 then Some AnId else if tag == 3 then Some ASize else if tag == 4 then Some AHint
-    else if tag == 5 then Some APiece else if tag == 6 then Some ATime else if tag == 7 then Some AnActive
-    else if tag == 8 then Some ASparse else if tag == 9 then Some ALinked else None
-
--- the value of a field of this kind, where these fields stand before it
-abbrev pub value_at : Kind → List Field → Cursor → Reads Field
-value_at AnId seen c = number_field w64 Id 1 (λ n. nat_lt n (2 ^ 64 - 1)) seen c
-value_at ASize seen c = number_field w64 Size 3 (λ n. true) seen c
-value_at AHint seen c = number_field w32 Hint 4 (λ n. nat_le n 5) seen c
-value_at APiece seen c = do
+-- an extent that has a byte
+abbrev pub piece_at : Cursor → Reads Field
+piece_at c = do
   s ← slice_at c
   bytes ← ranged ((length s.0 == 16) && nat_lt 0 (from_le_bytes w64 (drop 8 s.0))) s.0
   Ok (Piece (extent_of bytes), s.1)
-value_at ATime seen c = number_field w64 Time 6 (λ n. true) seen c
-value_at AnActive seen c = number_field w64 Active 7 (λ n. true) seen c
-value_at ASparse seen c = do
-  t ← once 8 seen
-  Ok (Sparse, c)
-value_at ALinked seen c = do
+
+-- a name, where this tells the names that are there already
+abbrev pub name_at : (List ℕ → Bool) → Cursor → Reads Field
+name_at there c = do
   s ← slice_at c
-  t ← once_named s.0 seen
+  t ← once 9 (there s.0)
   name ← ranged (is_name s.0) s.0
   Ok (Linked name, s.1)
 
+-- the kind of field that has this tag
+abbrev pub kind_of : ℕ → Option FieldKind
+kind_of tag =
+    if tag == 1 then Some kinds.Id else if tag == 3 then Some kinds.Size else if tag == 4 then Some kinds.Hint
+    else if tag == 5 then Some kinds.Piece else if tag == 6 then Some kinds.Time else if tag == 7 then Some kinds.Active
+    else if tag == 8 then Some kinds.Sparse else if tag == 9 then Some kinds.Linked else None
+
+-- the value of a field of this kind, where these fields stand before it
+abbrev pub value_at : FieldKind → List Field → Cursor → Reads Field
+value_at kinds.Id seen c = do
+  n ← single w64 1 (has_tag 1 seen) c
+  id ← ranged (nat_lt n.0 (2 ^ 64 - 1)) n.0
+  Ok (Id id, n.1)
+value_at kinds.Size seen c = do
+  n ← single w64 3 (has_tag 3 seen) c
+  Ok (Size n.0, n.1)
+value_at kinds.Hint seen c = do
+  n ← single w32 4 (has_tag 4 seen) c
+  hint ← ranged (nat_le n.0 5) n.0
+  Ok (Hint hint, n.1)
+value_at kinds.Piece seen c = piece_at c
+value_at kinds.Time seen c = do
+  n ← single w64 6 (has_tag 6 seen) c
+  Ok (Time n.0, n.1)
+value_at kinds.Active seen c = do
+  n ← single w64 7 (has_tag 7 seen) c
+  Ok (Active n.0, n.1)
+value_at kinds.Sparse seen c = do
+  t ← once 8 (has_tag 8 seen)
+  Ok (Sparse, c)
+value_at kinds.Linked seen c = name_at (λ name. has_name name seen) c
+
 -- the value behind a tag that is known
-abbrev pub known_value : ℕ → Option Kind → List Field → Cursor → Reads Field
+abbrev pub known_value : ℕ → Option FieldKind → List Field → Cursor → Reads Field
 known_value tag None seen c = Err (Tag tag)
 known_value tag (Some kind) seen c = value_at kind seen c
 

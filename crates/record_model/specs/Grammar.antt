@@ -3,8 +3,9 @@ use Rattle.std.specs.Prelude.{◌≡◌, ℕ, ◌<◌, ◌≤◌, ◌^◌, ◌-�
 use Rattle.std.specs.List.{AllByRecursion, list_all}
 use Rattle.record_model.specs.Name.{is_name}
 use Rattle.record_model.specs.Numbers.{u32, u64}
-use Rattle.record_model.specs.Encoding.{Field, tag_of, field_bytes, slice}
-use Rattle.record_model.specs.Encoding.Field.{Id, Size, Hint, Piece, Time, Active, Sparse, Linked}
+use Rattle.record_model.specs.Encoding.{tag_of, field_bytes, slice}
+use Rattle.record_model.specs.declared.field.Field.{Field}
+use Rattle.record_model.specs.declared.field.Field.TheVariants.{Id, Size, Hint, Piece, Time, Active, Sparse, Linked}
 use Rattle.record_model.specs.FieldDecoding.{has_tag}
 use Rattle.record_model.specs.Decoding.{entry_of, required_tags}
 use Rattle.record_model.specs.declared.types.FileEntry.{FileEntry}

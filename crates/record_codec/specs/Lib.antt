@@ -1,0 +1,5 @@
+pub mod Outcome
+pub mod Place
+pub mod BoundedVarint
+pub mod Draft
+pub mod DraftedField
