@@ -1,2 +1,5 @@
 pub mod Memory
+pub mod CallState
+pub mod Content
+pub mod Record
 pub mod SureState

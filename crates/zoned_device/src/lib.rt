@@ -4,11 +4,15 @@
 mod counters;
 mod device;
 mod error;
+mod failing;
+mod image_record;
 mod memory;
+mod step;
 mod sure_zones;
 mod zone_buffer;
 
 pub use device::ZonedDevice;
 pub use error::{DevFault, MakeError, ProbeError};
+pub use failing::Failing;
 pub use sure_zones::SureZones;
 pub use zone_image::{Geometry, Place, ZoneInfo};
