@@ -1,3 +1,5 @@
 mod Buffers
+mod Changes
+mod Leaves
 mod Memories
 mod Records

@@ -1,5 +1,5 @@
 -- What a device in memory holds: its image, and how it came to be.
-use Rattle.std.specs.Prelude.{◌≡◌, ◌⊎◌, ℕ, zero, suc, ◌+◌, ◌*◌, ◌<◌, ◌≤◌, Bool, ◌&&◌, List, [], ◌∷◌, ◌++◌, length, take, Option, None, Some, nat_lt, nat_le, if◌then◌else◌, is_none}
+use Rattle.std.specs.Prelude.{◌≡◌, ◌⊎◌, ℕ, ◌==◌, ◌+◌, ◌*◌, ◌<◌, ◌≤◌, Bool, ◌&&◌, List, [], ◌∷◌, ◌++◌, length, take, Option, None, Some, nat_lt, nat_le, if◌then◌else◌, is_none}
 use Rattle.zone_image.specs.declared.Geometry.{Geometry}
 use Rattle.zone_image.specs.Address.{device_bytes}
 use Rattle.zone_image.specs.Image.{Image, IsCrash}
@@ -87,11 +87,10 @@ AllBefore now (e ∷ es) = (e.tick < now) × AllBefore now es
 -- a finish or reset unless the part is 0
 abbrev pub part_of : Option ℕ → Change → Option Change
 part_of None ch = Some ch
-part_of (Some zero) ch = None
-part_of (Some (suc k)) (Append zone added) = Some (Append zone (take (suc k) added))
-part_of (Some (suc k)) (Finish zone) = Some (Finish zone)
-part_of (Some (suc k)) (Reset zone) = Some (Reset zone)
-part_of (Some (suc k)) Sync = None
+part_of (Some n) (Append zone added) = if n == 0 then None else Some (Append zone (take n added))
+part_of (Some n) (Finish zone) = if n == 0 then None else Some (Finish zone)
+part_of (Some n) (Reset zone) = if n == 0 then None else Some (Reset zone)
+part_of (Some n) Sync = None
 
 -- with what is done of a change, where there is room for it
 abbrev pub with_part : ℕ → Option Change → Content → Content
