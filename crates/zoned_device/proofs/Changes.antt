@@ -1,7 +1,7 @@
 -- What a changing call of a device in memory passes.
 use Rattle.std.proofs.Common.{◌≡◌, ◌⊎◌, inl, inr, ⊎_elim, ℕ, zero, suc, ◌+◌, ◌<◌, ◌≤◌, Bool, true, false, List, [], ◌∷◌, ◌++◌, length, take, get_or, set, Option, None, Some, refl, sym, ◌∙◌, ap, subst, arith, length-take}
 use Rattle.std.specs.List.{All}
-use Rattle.std.specs.Prelude.{◌==◌, ◌||◌}
+use Rattle.std.specs.Prelude.{◌==◌, ◌||◌, if◌then◌else◌}
 use Rattle.std.proofs.lemmas.Bool.{ne_eqb}
 use Rattle.std.proofs.lemmas.List.{append-nil, take_all, take-take, length-map}
 use Rattle.std.proofs.lemmas.List.Elements.{All-take}
@@ -11,7 +11,7 @@ use Rattle.zone_image.specs.Infos.{info_of, infos_of, info_at, active_zones, IsV
 use Rattle.zone_image.specs.Moments.{PassedByAppend}
 use Rattle.zone_image.proofs.InfoLaws.{info_at_is, valid_appended, valid_finished, valid_emptied, valid_synced}
 use Rattle.zone_image.proofs.CrashLaws.{crash_before_sync}
-use Rattle.zoned_device.specs.Content.{Change, Append, Finish, Reset, Sync, Event, Content, after, Passes, LeftBy, AllBefore}
+use Rattle.zoned_device.specs.Content.{Change, Append, Finish, Reset, Sync, Event, Content, after, Passes, LeftBy, AllBefore, part_of}
 
 -- the conditions of an append of blocks
 pub record CanAppend (i : Image) (zone : ℕ) (added : List (List ℕ)) : Type 0 where
@@ -86,3 +86,7 @@ passes_part n i j zone added passed = record {
   some = omega (arith, length-take n added, passed.some);
   crash = subst (λ bs. IsCrash (appended i zone bs) j) (take-take passed.count n added (omega (arith, length-take n added, passed.some))) passed.crash;
 }
+
+-- what is done of an append that fails after some blocks
+pub part_of-append : (n zone : ℕ) (added : List (List ℕ)) → (n ≡ 0 → ⊥) → part_of (Some n) (Append zone added) ≡ Some (Append zone (take n added))
+part_of-append n zone added some = ap (λ b. if b then None else Some (Append zone (take n added))) (ne_eqb n 0 some)

@@ -1,6 +1,7 @@
 //! Zoned devices: what a file system may ask of one, and devices in memory.
 #![tactic(auto)]
 
+mod calls;
 mod counters;
 mod device;
 mod error;
