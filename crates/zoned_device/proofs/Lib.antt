@@ -2,4 +2,5 @@ mod Buffers
 mod Changes
 mod Leaves
 mod Memories
+mod MemCalls
 mod Records

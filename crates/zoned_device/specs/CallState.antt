@@ -1,5 +1,5 @@
 -- Which calls of a device in memory fail.
-use Rattle.std.specs.Prelude.{ℕ, ◌-◌, Bool, true, false, List, [], ◌∷◌, Option, None, Some, Result, nat_le, ◌==◌, if◌then◌else◌}
+use Rattle.std.specs.Prelude.{ℕ, ◌-◌, ◌^◌, ◌≤◌, Bool, true, false, List, [], ◌∷◌, Option, None, Some, Result, nat_le, ◌==◌, if◌then◌else◌}
 use Rattle.zone_image.specs.Counts.{next_count, next_tick, last_tick}
 use Rattle.zoned_device.specs.declared.failing.Failing.{Failing}
 
@@ -50,3 +50,8 @@ faulted s = record s { faults = next_count s.faults }
 -- with a failed change counted
 abbrev pub change_failed : CallState → CallState
 change_failed s = record s { faults = next_count s.faults; failed_changes = next_count s.failed_changes }
+
+-- the tick and the count of faults are within their limits
+pub record IsWithinLimits (s : CallState) : Type 0 where
+  pub tick : s.tick ≤ last_tick
+  pub faults : s.faults ≤ 2 ^ 64 - 1

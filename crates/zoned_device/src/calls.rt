@@ -2,8 +2,8 @@
 ghost use Rattle.std.specs.Prelude.{◌≡◌, ◌+◌, ◌*◌, ◌/◌, ◌%◌, ◌<◌, ◌≤◌, ◌&&◌, false, length, take, None, is_none, is_ok, IfOk, IsTrue};
 ghost use Rattle.zone_image.specs.Image.{is_valid};
 ghost use Rattle.zone_image.specs.Changes.{blocks_in};
-ghost use Rattle.zone_image.specs.Counts.{last_tick};
 ghost use Rattle.zone_image.specs.Infos.{info_at, infos_of, active_zones};
+ghost use Rattle.zoned_device.specs.CallState.{IsWithinLimits};
 ghost use Rattle.zoned_device.specs.Content.{Append, Finish, Reset, Sync, has_room, part_of, with_part, content_after, calls_after, is_done};
 
 use crate::DevFault;
@@ -29,7 +29,7 @@ pub(crate) fn append(
     ensures counts { calls.new ≡ calls_after calls.old (Append zone (blocks_in record.old.standing.geometry bytes.now)) record.old }
     ensures answer { is_ok result ≡ is_done calls.old (Append zone (blocks_in record.old.standing.geometry bytes.now)) record.old }
     ensures first { IfOk result (λ first. first ≡ (info_at (infos_of record.old.standing) zone).written) }
-    ensures in_time { calls.old.tick ≤ last_tick }
+    ensures within { IsWithinLimits calls.old }
 {
     let tick = calls.tick();
     let fault = calls.begin();
@@ -45,7 +45,7 @@ pub(crate) fn finish(record: &mut Record, calls: &mut Calls, zone: u32) -> Resul
     ensures content { record.new ≡ content_after calls.old (Finish zone) record.old }
     ensures counts { calls.new ≡ calls_after calls.old (Finish zone) record.old }
     ensures answer { is_ok result ≡ is_done calls.old (Finish zone) record.old }
-    ensures in_time { calls.old.tick ≤ last_tick }
+    ensures within { IsWithinLimits calls.old }
 {
     let tick = calls.tick();
     let fault = calls.begin();
@@ -59,7 +59,7 @@ pub(crate) fn reset(record: &mut Record, calls: &mut Calls, zone: u32) -> Result
     ensures content { record.new ≡ content_after calls.old (Reset zone) record.old }
     ensures counts { calls.new ≡ calls_after calls.old (Reset zone) record.old }
     ensures answer { is_ok result ≡ is_done calls.old (Reset zone) record.old }
-    ensures in_time { calls.old.tick ≤ last_tick }
+    ensures within { IsWithinLimits calls.old }
 {
     let tick = calls.tick();
     let fault = calls.begin();
@@ -72,7 +72,7 @@ pub(crate) fn sync(record: &mut Record, calls: &mut Calls) -> Result<(), DevFaul
     ensures content { record.new ≡ content_after calls.old Sync record.old }
     ensures counts { calls.new ≡ calls_after calls.old Sync record.old }
     ensures answer { is_ok result ≡ is_done calls.old Sync record.old }
-    ensures in_time { calls.old.tick ≤ last_tick }
+    ensures within { IsWithinLimits calls.old }
 {
     let tick = calls.tick();
     let fault = calls.begin();

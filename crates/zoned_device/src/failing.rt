@@ -1,7 +1,7 @@
 // Which calls of a device in memory fail, and the counts of its calls.
 ghost use Rattle.std.specs.Prelude.{◌≡◌, ◌≤◌, nat_le, is_ok, if◌then◌else◌};
 ghost use Rattle.zone_image.specs.Counts.{last_tick};
-ghost use Rattle.zoned_device.specs.CallState.{fault_of, begun, faulted, change_failed, no_calls, is_used_up, listed_part, one_less};
+ghost use Rattle.zoned_device.specs.CallState.{IsWithinLimits, fault_of, begun, faulted, change_failed, no_calls, is_used_up, listed_part, one_less};
 
 use crate::DevFault;
 use crate::counters::{LAST_TICK, count_after, tick_after};
@@ -41,10 +41,10 @@ impl Model for Calls {
       failed_changes = c.failed_changes;
     } };
 
-    ghost use Rattle.std.specs.Prelude.{◌≤◌};
+    ghost use Rattle.std.specs.Prelude.{◌≤◌, ◌-◌, ◌^◌};
     ghost use Rattle.zone_image.specs.Counts.{last_tick};
 
-    ghost invariant = { λ c. c.tick ≤ last_tick };
+    ghost invariant = { λ c. (c.tick ≤ last_tick) × (c.faults ≤ 2 ^ 64 - 1) };
 }
 
 impl Calls {
@@ -66,7 +66,7 @@ impl Calls {
     pub(crate) fn begin(&mut self) -> Option<u32>
         ensures fault { result ≡ fault_of self.old }
         ensures counted { self.new ≡ begun self.old }
-        ensures in_time { self.old.tick ≤ last_tick }
+        ensures within { IsWithinLimits self.old }
     {
         let number = count_after(self.number);
         let fault = next_fault(&self.fails, self.passes, number, self.tick);
