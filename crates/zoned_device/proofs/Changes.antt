@@ -47,7 +47,7 @@ nothing_at zero capacity (z ∷ zs) unsealed room =
     λ i. record { blocks = append-nil z.blocks i; kept = z.kept; sealed = seal i } ∷ zs
 nothing_at (suc n) capacity (z ∷ zs) unsealed room = ap (λ l. z ∷ l) (nothing_at n capacity zs unsealed room)
 
-append_nothing : (i : Image) (zone : ℕ) (added : List (List ℕ)) → CanAppend i zone added → IsValidImage i → appended i zone (take 0 added) ≡ i
+pub append_nothing : (i : Image) (zone : ℕ) (added : List (List ℕ)) → CanAppend i zone added → IsValidImage i → appended i zone (take 0 added) ≡ i
 append_nothing i zone added can is =
     let in_range : zone < length i.zones = omega (arith, is.possible.count, length-map i.zones info_of, can.is_zone) in
     let told = info_at_is i zone in_range in

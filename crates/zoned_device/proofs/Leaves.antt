@@ -39,7 +39,7 @@ push_before [] e t now j none = absurd none
 push_before (x ∷ es) e t now j (inl here) = inl here
 push_before (x ∷ es) e t now j (inr there) = inr (push_before es e t now j there)
 
-push_last : (es : List Event) (e : Event) (t now : ℕ) (j : Image) → (t ≤ e.tick) × (e.tick < now) × Passes e.change e.image j → LeftBy (es ++ e ∷ []) t now j
+pub push_last : (es : List Event) (e : Event) (t now : ℕ) (j : Image) → (t ≤ e.tick) × (e.tick < now) × Passes e.change e.image j → LeftBy (es ++ e ∷ []) t now j
 push_last [] e t now j here = inl here
 push_last (x ∷ es) e t now j here = inr (push_last es e t now j here)
 
@@ -50,6 +50,10 @@ before_later now later (e ∷ es) le all = (omega (arith, all.0), before_later n
 pub before_push : (now : ℕ) (es : List Event) (e : Event) → AllBefore now es → e.tick < now → AllBefore now (es ++ e ∷ [])
 before_push now [] e all here = (here, tt)
 before_push now (x ∷ es) e all here = (all.0, before_push now es e all.1 here)
+
+pub began_later : (now later : ℕ) (o : Option Content) → now ≤ later → BeganBefore now o → BeganBefore later o
+began_later now later None le all = tt
+began_later now later (Some c) le all = before_later now later c.events le all
 
 pub tick_rises : (t : ℕ) → t ≤ last_tick → t ≤ next_tick t
 tick_rises t le = omega arith

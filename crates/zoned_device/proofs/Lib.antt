@@ -1,5 +1,7 @@
 mod Buffers
 mod Changes
+mod DeviceAppends
+mod DeviceCalls
 mod Leaves
 mod Memories
 mod MemCalls

@@ -105,7 +105,7 @@ module _ (c : Content) (s : CallState) (ch : Change) (is : IsValidImage c.standi
   can_part d done = part_can c.standing ch d (part_is (fault_of s) ch d done) can
 
   -- the tick rises where something is done
-  rises : (d : Change) → part_of (fault_of s) ch ≡ Some d → s.tick < (calls_after s ch c).tick
+  pub rises : (d : Change) → part_of (fault_of s) ch ≡ Some d → s.tick < (calls_after s ch c).tick
   rises d done = omega (arith, ticks c s ch, in_time s ch d done)
 
   later : s.tick ≤ (calls_after s ch c).tick
