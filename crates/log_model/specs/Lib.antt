@@ -10,6 +10,7 @@ pub mod MountLaws
 pub mod TableLaws
 pub mod FileTree
 pub mod Headroom
+pub mod HeadroomLaws
 pub mod Format
 pub mod FormatExamples
 pub mod LogExamples
