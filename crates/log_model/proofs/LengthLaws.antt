@@ -8,8 +8,9 @@ use Rattle.std.proofs.lemmas.List.Concat.{length-flat_map}
 use Rattle.std.proofs.lemmas.List.Sums.{sum_by_from, sum_by-cons, sum_by-append}
 use Rattle.std.proofs.lemmas.Grind.{div_ceil_times}
 use Rattle.record_model.specs.Numbers.{varint, varint_within}
-use Rattle.record_model.specs.Encoding.{Field, field_bytes, fields_of, entry_bytes, slice}
-use Rattle.record_model.specs.Encoding.Field.{Piece, Time, Active, Sparse, Linked}
+use Rattle.record_model.specs.Encoding.{field_bytes, fields_of, entry_bytes, slice}
+use Rattle.record_model.specs.declared.field.Field.{Field}
+use Rattle.record_model.specs.declared.field.Field.TheVariants.{Piece, Time, Active, Sparse, Linked}
 use Rattle.record_model.specs.declared.types.Extent.{Extent}
 use Rattle.record_model.specs.declared.types.FileEntry.{FileEntry}
 use Rattle.log_model.specs.LogScan.{blocks_of}

@@ -52,7 +52,7 @@ abbrev pub others_of : ℕ → Table → Table
 others_of id es = filter (λ f. not (f.id == id)) es
 
 -- ids that rise from a number rise from a lower one
-rise_from : (low from : ℕ) (es : Table) → low ≤ from → IdsRise from es → IdsRise low es
+pub rise_from : (low from : ℕ) (es : Table) → low ≤ from → IdsRise from es → IdsRise low es
 rise_from low from [] h rise = tt
 rise_from low from (e ∷ es) h rise = (omega (arith, rise.0), rise.1)
 
@@ -82,7 +82,7 @@ put_past from e (f ∷ fs) rise h =
     ∙ ap (λ es. f ∷ es) (put_past (f.id + 1) e fs rise.1 (omega (arith, rise.0)))
 
 -- an entry of a lower id comes first
-placed_first : (from : ℕ) (e : FileEntry) (es : Table) → IdsRise from es → e.id < from → with_entry e es ≡ e ∷ es
+pub placed_first : (from : ℕ) (e : FileEntry) (es : Table) → IdsRise from es → e.id < from → with_entry e es ≡ e ∷ es
 placed_first from e [] rise h = refl
 placed_first from e (f ∷ fs) rise h =
     ap (λ b. cond b (e ∷ f ∷ fs) (cond (e.id == f.id) (e ∷ fs) (f ∷ with_entry e fs))) (lt-ltb e.id f.id (omega (arith, rise.0)))

@@ -8,6 +8,7 @@ pub mod Frames
 pub mod Mounted
 pub mod MountLaws
 pub mod TableLaws
+pub mod ReplayLaws
 pub mod FileTree
 pub mod Headroom
 pub mod HeadroomLaws

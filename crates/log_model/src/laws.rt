@@ -1,4 +1,5 @@
 //! Laws of the definitions: each function does nothing, and its contract is a law.
+ghost use Rattle.log_model.specs.ReplayLaws.{AddedRecordIsReplayed, SnapshotIsReplayed};
 ghost use Rattle.log_model.specs.ScanLaws.{
   BoundIsFree,
   FrontScansToFront,
@@ -209,4 +210,14 @@ pub fn record_fits_table()
 /// A table whose files have no more extents than another's needs no more blocks.
 pub fn fewer_extents_need_no_more()
     ensures { FewerExtentsNeedNoMore }
+{}
+
+/// A log without an end record, with one record more, replays to the table after that record.
+pub fn added_record_is_replayed()
+    ensures { AddedRecordIsReplayed }
+{}
+
+/// The snapshot of a table replays to that table.
+pub fn snapshot_is_replayed()
+    ensures { SnapshotIsReplayed }
 {}
