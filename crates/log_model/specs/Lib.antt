@@ -13,8 +13,12 @@ pub mod FileTree
 pub mod Headroom
 pub mod HeadroomLaws
 pub mod Format
+pub mod Opened
 pub mod FormatExamples
-pub mod LogExamples
+pub mod ScanExamples
+pub mod TableExamples
+pub mod TreeExamples
+pub mod HeadroomExamples
 pub mod ExampleImages
 pub mod MountExamples
 pub mod MaliciousImages
