@@ -8,7 +8,13 @@ ghost use Rattle.log_model.specs.ScanLaws.{
   AppendAddsPayload,
   PartIsTorn,
 };
-ghost use Rattle.log_model.specs.MountLaws.{MountReadsBlocks, FrontHasFirstFrames, FramesStayInOrder};
+ghost use Rattle.log_model.specs.MountLaws.{
+  MountReadsBlocks,
+  FrontHasFirstFrames,
+  FramesStayInOrder,
+  KeptExtentStays,
+  KeptTableStays,
+};
 ghost use Rattle.log_model.specs.LogChangeLaws.{
   TornZoneIsAsEmpty,
   OtherZoneMayBeEmptied,
@@ -220,4 +226,14 @@ pub fn added_record_is_replayed()
 /// The snapshot of a table replays to that table.
 pub fn snapshot_is_replayed()
     ensures { SnapshotIsReplayed }
+{}
+
+/// An extent within the blocks that a zone keeps has its bytes still.
+pub fn kept_extent_stays()
+    ensures { KeptExtentStays }
+{}
+
+/// A table that breaks no rule breaks none where its extents and its recovery points are kept.
+pub fn kept_table_stays()
+    ensures { KeptTableStays }
 {}
