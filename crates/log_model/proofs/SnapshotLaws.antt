@@ -11,7 +11,7 @@ use Rattle.log_model.specs.ReplayLaws.{SnapshotIsReplayed}
 use Rattle.log_model.proofs.TableLaws.{placed_first, id_above}
 
 -- a table whose ids rise is in order
-sorted_same : (from : ℕ) (es : Table) → IdsRise from es → sorted es ≡ es
+pub sorted_same : (from : ℕ) (es : Table) → IdsRise from es → sorted es ≡ es
 sorted_same from [] rise = refl
 sorted_same from (e ∷ es) rise = ap (with_entry e) (sorted_same (e.id + 1) es rise.1) ∙ placed_first (e.id + 1) e es rise.1 (omega arith)
 

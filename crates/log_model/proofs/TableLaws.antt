@@ -146,7 +146,7 @@ taken_others ns taken id [] h = refl
 taken_others ns taken id (f ∷ fs) h = taken_head (f.id == id) ns taken id f fs refl h.0 (taken_others ns taken id fs h.1)
 
 -- one entry more, or none, keeps the ids rising
-rise_cond : (c : Bool) (from : ℕ) (x : FileEntry) (es : Table) → from ≤ x.id → IdsRise (x.id + 1) es → IdsRise from (cond c (x ∷ es) es)
+pub rise_cond : (c : Bool) (from : ℕ) (x : FileEntry) (es : Table) → from ≤ x.id → IdsRise (x.id + 1) es → IdsRise from (cond c (x ∷ es) es)
 rise_cond true from x es h rise = (h, rise)
 rise_cond false from x es h rise = rise_from from (x.id + 1) es (omega arith) rise
 

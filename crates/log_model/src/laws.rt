@@ -30,6 +30,7 @@ ghost use Rattle.log_model.specs.TableLaws.{
   DeleteIsReplayed,
   GrowIsReplayed,
   ReplaceKeepsTree,
+  RecordKeepsTable,
 };
 ghost use Rattle.log_model.specs.HeadroomLaws.{
   DeletionKeepsRoom,
@@ -237,3 +238,9 @@ pub fn kept_extent_stays()
 pub fn kept_table_stays()
     ensures { KeptTableStays }
 {}
+
+/// A record makes a table of a table: ids rise, each file has a name, and no two files share one.
+pub fn record_keeps_table()
+    ensures { RecordKeepsTable }
+{
+}
