@@ -1,3 +1,5 @@
 pub mod ByteOrder
 pub mod SortLaws
 pub mod HintLaws
+pub mod RestoreLaws
+pub mod PrefixLaws
