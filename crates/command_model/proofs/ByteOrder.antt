@@ -1,12 +1,11 @@
 -- Byte order is a strict order, and any two different names are in order.
-use Rattle.std.specs.Prelude.{◌≡◌, ◌≢◌, ℕ, Bool, true, false, List, [], ◌∷◌, ◌++◌, refl}
+use Rattle.std.specs.Prelude.{◌≡◌, ◌≢◌, ℕ, true, false, List, [], ◌∷◌, ◌++◌, refl}
 use Rattle.std.specs.declared.cmp.Ordering.{Ordering}
 use Rattle.std.specs.declared.cmp.Ordering.TheVariants.{Less, Equal, Greater}
 use Rattle.std.specs.Ordering.{is_lt, is_eq, nat_cmp, ordering_then, ordering_reverse}
 use Rattle.std.specs.Cmp.{nat_cmp_is}
 use Rattle.std.specs.Cmp.Lexicographic.{slice_cmp, same_text}
-use Rattle.std.specs.Str.{bytes_eq}
-use Rattle.std.proofs.Common.{sym, ◌∙◌, ap, subst}
+use Rattle.std.proofs.Common.{sym, ◌∙◌, ap}
 use Rattle.std.proofs.lemmas.Cmp.{nat_list_cmp_total}
 use Rattle.std.proofs.lemmas.Map.Text.{is_eq-slice_cmp}
 use Rattle.std.proofs.lemmas.Bool.{false≢true}
@@ -33,6 +32,13 @@ after_from x y Greater is away h =
 -- of two different names one comes before
 pub before_or_after : (x y : List ℕ) → x ≢ y → is_before x y ≡ false → is_before y x ≡ true
 before_or_after x y away h = after_from x y (slice_cmp nat_cmp x y) refl away h
+
+-- nothing is before itself
+pub not_before_itself : (x y : List ℕ) → is_before x y ≡ true → x ≢ y
+not_before_itself x y h same =
+    let less : slice_cmp nat_cmp x x ≡ Less = ap (λ z. slice_cmp nat_cmp x z) same ∙ less_from (slice_cmp nat_cmp x y) h in
+    let both : Less ≡ Greater = sym less ∙ nat_list_cmp_total.antisymm x x ∙ ap ordering_reverse less in
+    cc
 
 -- what stands in front of both doesn't matter
 pub same_front : (p x y : List ℕ) → slice_cmp nat_cmp (p ++ x) (p ++ y) ≡ slice_cmp nat_cmp x y

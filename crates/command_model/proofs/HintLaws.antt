@@ -1,14 +1,13 @@
 -- A hints file that a backup wrote is read back.
-use Rattle.std.specs.Prelude.{◌≡◌, ◌≢◌, ⊤, ℕ, ◌+◌, ◌-◌, ◌≤◌, Bool, true, false, not, ◌&&◌, ◌||◌, ◌==◌, nat_lt, List, [], ◌∷◌, ◌++◌, map, filter, flat_map, Option, Some, None, Result, Ok, Err, refl, if◌then◌else◌}
-use Rattle.std.specs.List.{AllByRecursion, list_any}
+use Rattle.std.specs.Prelude.{◌≡◌, ◌≢◌, ℕ, ◌+◌, ◌-◌, ◌≤◌, Bool, true, false, not, ◌&&◌, ◌||◌, ◌==◌, nat_lt, List, [], ◌∷◌, ◌++◌, map, filter, flat_map, Option, Some, None, Result, Ok, Err, refl, if◌then◌else◌}
+use Rattle.std.specs.List.{AllByRecursion}
 use Rattle.std.specs.Str.{bytes_eq}
 use Rattle.std.specs.Cmp.Lexicographic.{same_text, other_text}
 use Rattle.std.proofs.Common.{sym, ◌∙◌, ap, subst, append_assoc, ⊎_elim, arith}
 use Rattle.std.proofs.lemmas.Bool.Decides.{eqb_tells}
 use Rattle.std.proofs.lemmas.List.Folds.{list_any-append}
 use Rattle.std.proofs.lemmas.List.{append-nil}
-use Rattle.std.proofs.lemmas.Bool.{false≢true, lt-ltb, eqb-true, eq-eqb}
-use Rattle.std.proofs.lemmas.Slice.Eq.{bytes_eq-Decides}
+use Rattle.std.proofs.lemmas.Bool.{lt-ltb}
 use Rattle.record_model.specs.FieldDecoding as decoding
 use Rattle.command_model.specs.TreeCommands.{RestoreFile}
 use Rattle.command_model.specs.Backup.{HostEntry, PathHint, hint_of, has_line, add_hint, hints_from, hint_line, hint_for, host_entry, file_to_restore, with_prefix, hints_path, is_hints, hints_bytes}
@@ -115,9 +114,11 @@ AreUntold fs hs = AllByRecursion (λ f. has_line f.name hs ≡ false) fs
 -- after one more line
 still_untold : (f : RestoreFile) (gs : List RestoreFile) (hs : List PathHint) → IsNew f gs → AreUntold gs hs → AreUntold gs (hs ++ told f ∷ [])
 still_untold f [] hs new h = tt
-still_untold f (g ∷ gs) hs new h =
-    (list_any-append (λ p. bytes_eq p.path g.name) hs (told f ∷ [])
-    ∙ ap (λ b. b || (bytes_eq f.name g.name || false)) h.0 ∙ ap (λ b. b || false) (differ f.name g.name new.0), still_untold f gs hs new.1 h.1)
+still_untold f (g ∷ gs) hs new h = (
+  list_any-append (λ p. bytes_eq p.path g.name) hs (told f ∷ [])
+      ∙ ap (λ b. b || (bytes_eq f.name g.name || false)) h.0 ∙ ap (λ b. b || false) (differ f.name g.name new.0),
+  still_untold f gs hs new.1 h.1,
+)
 
 -- one more line is taken
 line_taken : (n : ℕ) (f : RestoreFile) (hs : List PathHint) (rest : List ℕ) → IsWritable f → has_line f.name hs ≡ false

@@ -3,3 +3,4 @@ pub mod SortLaws
 pub mod HintLaws
 pub mod RestoreLaws
 pub mod PrefixLaws
+pub mod BackupLaws

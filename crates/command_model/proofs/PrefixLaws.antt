@@ -1,17 +1,17 @@
 -- Names under a prefix, and paths that come from them.
-use Rattle.std.specs.Prelude.{◌≡◌, ◌≢◌, ⊤, ℕ, ◌+◌, ◌≤◌, Bool, true, false, not, ◌&&◌, ◌==◌, nat_le, nat_eq, List, [], ◌∷◌, ◌++◌, length, take, drop, map, filter, flat_map, Option, Some, None, is_some, IsTrue, refl, if◌then◌else◌}
+use Rattle.std.specs.Prelude.{◌≡◌, ◌≢◌, ℕ, ◌+◌, Bool, true, false, not, ◌&&◌, ◌==◌, nat_le, nat_eq, List, [], ◌∷◌, ◌++◌, length, take, drop, Option, Some, None, IsTrue, refl, if◌then◌else◌}
 use Rattle.std.specs.List.{AllByRecursion, list_all, slice_split, onto_first, starts_with}
 use Rattle.std.specs.Str.{is_utf8}
 use Rattle.std.specs.Ordering.{is_lt}
 use Rattle.std.specs.Cmp.Lexicographic.{same_text}
-use Rattle.std.proofs.Common.{sym, ◌∙◌, ap, subst, append_assoc, ⊎_elim, arith}
-use Rattle.std.proofs.lemmas.List.{take-append-drop, length-append, map-append}
+use Rattle.std.proofs.Common.{sym, ◌∙◌, ap, append_assoc, ⊎_elim}
+use Rattle.std.proofs.lemmas.List.{take-append-drop, length-append}
 use Rattle.std.proofs.lemmas.List.Folds.{list_all-append}
 use Rattle.std.proofs.lemmas.Bool.{false≢true}
+use Rattle.std.proofs.lemmas.Bool.Decides.{eqb_tells}
 use Rattle.record_model.specs.Name.{is_name, is_text, is_part, are_parts, is_printable}
-use Rattle.log_model.specs.FileTree.{Tree, TreeFile}
 use Rattle.command_model.specs.TreeCommands.{RestoreFile}
-use Rattle.command_model.specs.Backup.{relative, with_prefix, file_under, names_under, is_under, is_before}
+use Rattle.command_model.specs.Backup.{relative, with_prefix, is_before}
 use Rattle.command_model.proofs.ByteOrder.{same_front}
 use Rattle.command_model.proofs.HintLaws.{placed}
 
@@ -72,3 +72,57 @@ one_more_byte false b parts h = longer_first b parts h
 empty_part : (p : List ℕ) → list_all is_part (later_parts (slice_split (λ b. b == 47) (p ++ 47 ∷ []))) ≡ false
 empty_part [] = refl
 empty_part (b ∷ bs) = one_more_byte (b == 47) b (slice_split (λ c. c == 47) (bs ++ 47 ∷ [])) (empty_part bs)
+
+-- the second of two tests that hold
+second_of : (a b : Bool) → (a && b) ≡ true → b ≡ true
+second_of true b h = h
+second_of false b h = absurd (false≢true h)
+
+-- the first of two tests that hold
+first_of : (a b : Bool) → (a && b) ≡ true → a ≡ true
+first_of true b h = refl
+first_of false b h = h
+
+-- a name has right parts
+name_parts : (name : List ℕ) → IsTrue (is_name name) → are_parts name ≡ true
+unfolding is_name
+name_parts name h = second_of (nat_le 1 (length name) && nat_le (length name) 255 && is_text name) (are_parts name) h
+
+-- a name is printable
+name_printable : (name : List ℕ) → IsTrue (is_name name) → list_all is_printable name ≡ true
+unfolding is_name
+name_printable name h =
+    second_of (is_utf8 name) (list_all is_printable name)
+    (second_of (nat_le 1 (length name) && nat_le (length name) 255) (is_text name)
+    (first_of (nat_le 1 (length name) && nat_le (length name) 255 && is_text name) (are_parts name) h))
+
+-- no byte is no name
+name_some : (name : List ℕ) → IsTrue (is_name name) → name ≢ []
+unfolding is_name
+name_some name h is = false≢true (ap (λ n. nat_le 1 (length n)) (sym is) ∙ first_of (nat_le 1 (length name)) (nat_le (length name) 255) (first_of (nat_le 1 (length name) && nat_le (length name) 255) (is_text name)
+    (first_of (nat_le 1 (length name) && nat_le (length name) 255 && is_text name) (are_parts name) h)))
+
+-- the path of a name has a byte
+pub path_some : (prefix : Option (List ℕ)) (path : List ℕ) → IsTrue (is_name (with_prefix prefix path)) → path ≢ []
+path_some None path h = name_some path h
+path_some (Some p) path h = λ is.
+    false≢true (sym (all_wrong (slice_split (λ b. b == 47) (p ++ 47 ∷ [])) (empty_part p))
+    ∙ ap (λ rest. are_parts (p ++ 47 ∷ rest)) (sym is) ∙ name_parts (p ++ 47 ∷ path) h)
+
+-- a printable byte is no newline
+printable_byte : (b : ℕ) → is_printable b ≡ true → (b == 10) ≡ false
+printable_byte b h =
+    ⊎_elim (λ same. absurd (false≢true (sym (ap (λ n. nat_le 32 n) same.1) ∙ first_of (nat_le 32 b) (not (b == 127)) h))) (λ other. other.0) (eqb_tells b 10)
+
+-- printable bytes have no newline among them
+printable_line : (bytes : List ℕ) → list_all is_printable bytes ≡ true → AllByRecursion (λ b. (b == 10) ≡ false) bytes
+printable_line [] h = tt
+printable_line (b ∷ bs) h =
+    (printable_byte b (first_of (is_printable b) (list_all is_printable bs) h), printable_line bs (second_of (is_printable b) (list_all is_printable bs) h))
+
+-- the path of a name has no newline
+pub path_line : (prefix : Option (List ℕ)) (path : List ℕ) → IsTrue (is_name (with_prefix prefix path)) → AllByRecursion (λ b. (b == 10) ≡ false) path
+path_line None path h = printable_line path (name_printable path h)
+path_line (Some p) path h =
+    printable_line path (second_of (list_all is_printable p) (list_all is_printable path)
+    (sym (list_all-append is_printable p (47 ∷ path)) ∙ name_printable (p ++ 47 ∷ path) h))

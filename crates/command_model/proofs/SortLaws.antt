@@ -1,8 +1,7 @@
 -- Sorting files by their names.
-use Rattle.std.specs.Prelude.{◌≡◌, ◌≢◌, ⊤, ℕ, Bool, true, false, List, [], ◌∷◌, ◌++◌, map, filter, refl, if◌then◌else◌}
+use Rattle.std.specs.Prelude.{◌≡◌, ◌≢◌, ⊤, Bool, true, false, List, [], ◌∷◌, map, filter, refl, if◌then◌else◌}
 use Rattle.std.specs.List.{AllByRecursion}
-use Rattle.std.proofs.Common.{sym, ◌∙◌, ap, subst}
-use Rattle.std.proofs.lemmas.Bool.{false≢true}
+use Rattle.std.proofs.Common.{sym, ◌∙◌, ap}
 use Rattle.command_model.specs.TreeCommands.{RestoreFile}
 use Rattle.command_model.specs.Backup.{is_before, insert_file, in_order}
 use Rattle.command_model.proofs.ByteOrder.{before_then, before_or_after}

@@ -1,8 +1,8 @@
 -- What it takes for a restore to give back what a backup saved.
-use Rattle.std.specs.Prelude.{◌≢◌, ⊤, ℕ, ◌≤◌, List, [], ◌∷◌, flat_map, Option, Some, None, IsTrue}
+use Rattle.std.specs.Prelude.{◌≢◌, ⊤, ℕ, ◌≤◌, List, [], ◌∷◌, flat_map, IsTrue}
 use Rattle.std.specs.List.{AllByRecursion}
 use Rattle.record_model.specs.Name.{is_name}
-use Rattle.log_model.specs.FileTree.{Tree, TreeFile}
+use Rattle.log_model.specs.FileTree.{Tree}
 
 -- no two of these are the same
 abbrev pub AreDistinct : List (List ℕ) → Type 0
@@ -18,8 +18,3 @@ pub record IsProperTree (tree : Tree) : Type 0 where
   pub names : AllByRecursion (λ n. IsTrue (is_name n)) (all_names tree)
   pub distinct : AreDistinct (all_names tree)
   pub hints : AllByRecursion (λ f. f.hint ≤ 5) tree
-
--- a prefix that is a name, or none
-abbrev pub IsProperPrefix : Option (List ℕ) → Type 0
-IsProperPrefix None = ⊤
-IsProperPrefix (Some prefix) = IsTrue (is_name prefix)
