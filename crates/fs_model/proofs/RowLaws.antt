@@ -11,6 +11,8 @@ use Rattle.fs_model.specs.FsState.{FsState, TableRow, row_named, on_row}
 use Rattle.fs_model.specs.Trace.{Action, done, refuse, step, refuse_if, continue, ◌>>=◌, ◌>>◌, from_state, each}
 use Rattle.fs_model.specs.LogSteps.{FsAction, NoValue, reset_zone, resettable_zones, reset_dead_zones, add_record, refuse_sequence, refuse_above, rows_need, block_of, set_rows}
 use Rattle.fs_model.specs.TreeSteps.{change_rows, new_entry, new_row, create_entry, create, with_names, entry_update, link_to, link, renamed_rows, entry_in, rename_to, rename, drop_name, delete_by, delete_row, delete}
+use Rattle.fs_model.specs.LogSteps.{set_row}
+use Rattle.fs_model.specs.FileSteps.{or_gone, commit_blocks, commit_record, committed}
 use Rattle.fs_model.proofs.EachLaws.{split}
 use Rattle.fs_model.proofs.SureLaws.{IsSure, sure_resets, sure_step, sure_then}
 use Rattle.fs_model.proofs.SameRows.{HasSameRows, rows_then, rows_from, rows_each, rows_reset, rows_refuse, rows_tests, rows_need_test, rows_record}
@@ -103,3 +105,22 @@ pub delete_made : (s : FsState) (there : Option TableRow) (name : List ℕ) → 
     → (delete_row s there name s).last.rows ≡ drop_name name s.rows
 delete_made s None name h = absurd cc
 delete_made s (Some r) name h = delete_by_made (blocks_of_record (block_of s) (records.Deletion r.entry.id name)) name s h
+
+-- a commit of a file that is there
+commit_blocks_made : (blocks now : ℕ) (r : TableRow) (s : FsState) → (commit_blocks blocks now r s).answer ≡ Ok tt
+    → (commit_blocks blocks now r s).last.rows ≡ on_row r.entry.id (committed now) s.rows
+commit_blocks_made blocks now r s h =
+    let before : FsAction NoValue = refuse_sequence blocks >> add_record blocks in
+    let set : FsAction NoValue = set_row r.entry.id (committed now) in
+    let all = split ((before >> set) s).passed ((before >> set) s).last ((before >> set) s).answer (λ _. reset_dead_zones) tt (commit_blocks blocks now r s).last (h, refl) in
+    let parts = split (before s).passed (before s).last (before s).answer (λ _. set) all.0 ((before >> set) s).last (all.1, refl) in
+    ap (λ t. t.rows) all.3 ∙ rows_resets.rows ((before >> set) s).last ∙ ap (λ t. t.rows) parts.3
+    ∙ ap (λ rows. on_row r.entry.id (committed now) rows) ((rows_then (rows_tests blocks) (rows_record blocks)).rows s)
+
+-- a commit, by the file
+pub commit_made : (now : ℕ) (s : FsState) (there : Option TableRow)
+    → (or_gone (λ r. from_state (λ t. commit_blocks (blocks_of_record (block_of t) (commit_record now r)) now r)) there s).answer ≡ Ok tt
+    → (r : TableRow) × (there ≡ Some r)
+    × ((or_gone (λ q. from_state (λ t. commit_blocks (blocks_of_record (block_of t) (commit_record now q)) now q)) there s).last.rows ≡ on_row r.entry.id (committed now) s.rows)
+commit_made now s None h = absurd cc
+commit_made now s (Some r) h = (r, refl, commit_blocks_made (blocks_of_record (block_of s) (commit_record now r)) now r s h)

@@ -189,7 +189,7 @@ taken_shown i old new r other rows apart is there differs =
     let g : List (List ℕ) → List (List ℕ) = λ ns. renamed old new ns in
     let holder = only_holder new rows other apart there in
     let absent : is_among r.entry.names new ≡ false =
-        not_true (is_among r.entry.names new) (λ has. false≢true (sym differs ∙ eq-eqb other.entry.id r.entry.id (sym (ap (λ p. p.entry.id) (at_name (λ q. is_among q.entry.names new ≡ true → q ≡ other) old rows r holder is has))))) in
+    not_true (is_among r.entry.names new) (λ has. false≢true (sym differs ∙ eq-eqb other.entry.id r.entry.id (sym (ap (λ p. p.entry.id) (at_name (λ q. is_among q.entry.names new ≡ true → q ≡ other) old rows r holder is has))))) in
     names_shown i r.entry.id (g r.entry.names) g (drop_name new rows)
     (all_dropped (λ q. (q.entry.id == r.entry.id) ≡ true → g q.entry.names ≡ g r.entry.names) new rows
     (all_map (λ q. (q.entry.id == r.entry.id) ≡ true → q ≡ r) (λ q. (q.entry.id == r.entry.id) ≡ true → g (filter (λ n. not (bytes_eq n new)) q.entry.names) ≡ g r.entry.names) rows
