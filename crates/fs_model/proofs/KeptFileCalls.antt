@@ -55,7 +55,7 @@ first_or_later id true q r later is rest h = let same : q ≡ r = cc in ap (λ p
 first_or_later id false q r later is rest h = rest h
 
 -- the file of an id has this id
-has_id : (id : ℕ) (rows : List TableRow) (r : TableRow) → row_of id rows ≡ Some r → r.entry.id ≡ id
+pub has_id : (id : ℕ) (rows : List TableRow) (r : TableRow) → row_of id rows ≡ Some r → r.entry.id ≡ id
 has_id id [] r h = cc
 has_id id (q ∷ qs) r h = first_or_later id (q.entry.id == id) q r (row_of id qs) refl (has_id id qs r) h
 

@@ -36,7 +36,7 @@ rows_refuse true e = record { rows = λ s. refl }
 rows_refuse false e = record { rows = λ s. refl }
 
 -- for each of a list
-rows_each : {X : Type 0} {f : X → FsAction NoValue} → (xs : List X) → ((x : X) → HasSameRows (f x)) → HasSameRows (each f xs)
+pub rows_each : {X : Type 0} {f : X → FsAction NoValue} → (xs : List X) → ((x : X) → HasSameRows (f x)) → HasSameRows (each f xs)
 rows_each [] a = record { rows = λ s. refl }
 rows_each (x ∷ xs) a = rows_then (a x) (rows_each xs a)
 
@@ -45,7 +45,7 @@ rows_append : (zone k : ℕ) → HasSameRows (append_blocks zone k)
 rows_append zone k = record { rows = λ s. refl }
 
 -- a reset
-rows_reset : (zone : ℕ) → HasSameRows (reset_zone zone)
+pub rows_reset : (zone : ℕ) → HasSameRows (reset_zone zone)
 rows_reset zone = record { rows = λ s. refl }
 
 -- a finish

@@ -13,8 +13,8 @@ use Rattle.fs_model.specs.FileSteps.{commit, commit_blocks, commit_record, commi
 use Rattle.fs_model.specs.declared.zones.Move.{Move}
 
 -- it is never refused
-record IsSure {S : Type 0} (m : Action S (Unit {0})) : Type 0 where
-  ok : (s : S) → (m s).answer ≡ Ok tt
+pub record IsSure {S : Type 0} (m : Action S (Unit {0})) : Type 0 where
+  pub ok : (s : S) → (m s).answer ≡ Ok tt
 
 -- what goes on after an Ok answers what comes then
 goes_on : {S A B : Type 0} → (passed : List S) (last : S) (answer : Result A FsError) (x : A) (f : A → Action S B)
@@ -22,11 +22,11 @@ goes_on : {S A B : Type 0} → (passed : List S) (last : S) (answer : Result A F
 goes_on passed last answer x f is = ap (λ r. (continue passed last r f).answer) is
 
 -- one sure operation after another
-sure_then : {S : Type 0} {m n : Action S (Unit {0})} → IsSure m → IsSure n → IsSure (m >> n)
+pub sure_then : {S : Type 0} {m n : Action S (Unit {0})} → IsSure m → IsSure n → IsSure (m >> n)
 sure_then {m = m} {n = n} a b = record { ok = λ s. goes_on (m s).passed (m s).last (m s).answer tt (λ _. n) (a.ok s) ∙ b.ok (m s).last }
 
 -- a step
-sure_step : {S : Type 0} → (f : S → S) → IsSure (step f)
+pub sure_step : {S : Type 0} → (f : S → S) → IsSure (step f)
 sure_step f = record { ok = λ s. refl }
 
 -- one that looks at the state
@@ -68,7 +68,7 @@ sure_record : (blocks : ℕ) → IsSure (add_record blocks)
 sure_record blocks = sure_then (sure_from (λ s. sure_when (must_roll s blocks) sure_roll)) (sure_from (λ s. sure_append s.log.zone blocks))
 
 -- zones that nothing needs are reset
-sure_resets : IsSure reset_dead_zones
+pub sure_resets : IsSure reset_dead_zones
 sure_resets = sure_from (λ s. sure_each {f = reset_zone} (resettable_zones s) sure_reset)
 
 -- it is refused with one cause alone

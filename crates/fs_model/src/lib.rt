@@ -7,6 +7,7 @@ pub mod frames;
 pub mod laws;
 mod operations;
 mod policy;
+pub mod trees;
 mod zones;
 
 pub use error::FsError;

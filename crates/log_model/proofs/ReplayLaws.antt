@@ -27,7 +27,7 @@ use Rattle.log_model.proofs.SelectionLaws.{some_is}
 turned : (b : Bool) (x y : List ℕ) → Decides b (y ≡ x) → Decides b (x ≡ y)
 turned b x y h = (λ is. sym (h.0 is), λ same. h.1 (sym same))
 
-bytes_eq_sym : (x y : List ℕ) → bytes_eq x y ≡ bytes_eq y x
+pub bytes_eq_sym : (x y : List ℕ) → bytes_eq x y ≡ bytes_eq y x
 bytes_eq_sym x y = same_from_decides (bytes_eq x y) (bytes_eq y x) (bytes_eq-Decides x y) (turned (bytes_eq y x) x y (bytes_eq-Decides y x))
 
 -- what holds of the head of a table, or of a file behind it
@@ -37,7 +37,7 @@ head_has true P id f fs e h behind is = subst P (some_is is) h
 head_has false P id f fs e h behind is = behind is
 
 -- what holds of each file holds of the file of an id
-file_has : (P : FileEntry → Type 0) (id : ℕ) (es : Table) (e : FileEntry) → AllByRecursion P es → file_of id es ≡ Some e → P e
+pub file_has : (P : FileEntry → Type 0) (id : ℕ) (es : Table) (e : FileEntry) → AllByRecursion P es → file_of id es ≡ Some e → P e
 file_has P id [] e h is = cc
 file_has P id (f ∷ fs) e h is = head_has (f.id == id) P id f fs e h.0 (file_has P id fs e h.1) is
 
@@ -74,7 +74,7 @@ names_update : (e : FileEntry) (names : List (List ℕ)) → grown (Some e) (wit
 names_update e names = ap (λ xs. record (renamed_to e names) { extents = xs }) (append-nil e.extents)
 
 -- what follows of each entry
-all_from : (P Q : FileEntry → Type 0) (es : Table) → ((f : FileEntry) → P f → Q f) → AllByRecursion P es → AllByRecursion Q es
+pub all_from : (P Q : FileEntry → Type 0) (es : Table) → ((f : FileEntry) → P f → Q f) → AllByRecursion P es → AllByRecursion Q es
 all_from P Q [] step h = tt
 all_from P Q (f ∷ fs) step h = (step f h.0, all_from P Q fs step h.1)
 
@@ -264,7 +264,7 @@ left_none [] = refl
 left_none (n ∷ ns) = ap (λ ms. n ∷ ms) (left_none ns)
 
 -- of every entry
-all_of : (P : FileEntry → Type 0) (es : Table) → ((f : FileEntry) → P f) → AllByRecursion P es
+pub all_of : (P : FileEntry → Type 0) (es : Table) → ((f : FileEntry) → P f) → AllByRecursion P es
 all_of P [] h = tt
 all_of P (f ∷ fs) h = (h f, all_of P fs h)
 

@@ -52,7 +52,7 @@ abbrev pub others_of : ℕ → Table → Table
 others_of id es = filter (λ f. not (f.id == id)) es
 
 -- ids that rise from a number rise from a lower one
-rise_from : (low from : ℕ) (es : Table) → low ≤ from → IdsRise from es → IdsRise low es
+pub rise_from : (low from : ℕ) (es : Table) → low ≤ from → IdsRise from es → IdsRise low es
 rise_from low from [] h rise = tt
 rise_from low from (e ∷ es) h rise = (omega (arith, rise.0), rise.1)
 
@@ -82,7 +82,7 @@ put_past from e (f ∷ fs) rise h =
     ∙ ap (λ es. f ∷ es) (put_past (f.id + 1) e fs rise.1 (omega (arith, rise.0)))
 
 -- an entry of a lower id comes first
-placed_first : (from : ℕ) (e : FileEntry) (es : Table) → IdsRise from es → e.id < from → with_entry e es ≡ e ∷ es
+pub placed_first : (from : ℕ) (e : FileEntry) (es : Table) → IdsRise from es → e.id < from → with_entry e es ≡ e ∷ es
 placed_first from e [] rise h = refl
 placed_first from e (f ∷ fs) rise h =
     ap (λ b. cond b (e ∷ f ∷ fs) (cond (e.id == f.id) (e ∷ fs) (f ∷ with_entry e fs))) (lt-ltb e.id f.id (omega (arith, rise.0)))
@@ -146,7 +146,7 @@ taken_others ns taken id [] h = refl
 taken_others ns taken id (f ∷ fs) h = taken_head (f.id == id) ns taken id f fs refl h.0 (taken_others ns taken id fs h.1)
 
 -- one entry more, or none, keeps the ids rising
-rise_cond : (c : Bool) (from : ℕ) (x : FileEntry) (es : Table) → from ≤ x.id → IdsRise (x.id + 1) es → IdsRise from (cond c (x ∷ es) es)
+pub rise_cond : (c : Bool) (from : ℕ) (x : FileEntry) (es : Table) → from ≤ x.id → IdsRise (x.id + 1) es → IdsRise from (cond c (x ∷ es) es)
 rise_cond true from x es h rise = (h, rise)
 rise_cond false from x es h rise = rise_from from (x.id + 1) es (omega arith) rise
 

@@ -1,5 +1,5 @@
 -- Images for worked cases.
-use Rattle.std.specs.Prelude.{ℕ, ◌+◌, ◌-◌, ◌^◌, false, Bool, List, [], ◌∷◌, ◌++◌, length, replicate, codes, take, drop, flat_map, map, Result, Ok, Err}
+use Rattle.std.specs.Prelude.{ℕ, ◌+◌, ◌-◌, ◌^◌, false, Bool, List, [], ◌∷◌, ◌++◌, length, replicate, codes, take, drop, flat_map, map, Option, Some, None, Result, Ok, Err}
 use Rattle.zone_image.specs.declared.Geometry.{Geometry}
 use Rattle.zone_image.specs.Image.{Image, Zone}
 use Rattle.record_model.specs.Encoding.{payload_of}
@@ -9,6 +9,7 @@ use Rattle.record_model.specs.declared.types.Record.TheVariants.{Snapshot}
 use Rattle.superblock_core.specs.Superblock.{superblock_bytes}
 use Rattle.superblock_core.specs.declared.superblock.Superblock.{Superblock}
 use Rattle.log_model.specs.declared.selection.Refusal.{Refusal}
+use Rattle.log_model.specs.declared.selection.Refusal.TheVariants.{Damaged}
 use Rattle.log_model.specs.LogScan.{record_blocks}
 use Rattle.log_model.specs.FileTree.{Tree}
 use Rattle.log_model.specs.FileTable.{Table}
@@ -64,6 +65,16 @@ names_in (Err why) = Err why
 abbrev pub zone_in : Result Chosen Refusal → Result ℕ Refusal
 zone_in (Ok chosen) = Ok chosen.zone
 zone_in (Err why) = Err why
+
+-- the highest sequence that was seen
+abbrev pub greatest_in : Result Chosen Refusal → Result ℕ Refusal
+greatest_in (Ok chosen) = Ok chosen.greatest
+greatest_in (Err why) = Err why
+
+-- the zone and the block of damage
+abbrev pub damage_at : Result Tree Refusal → Option (ℕ × ℕ)
+damage_at (Err (Damaged damage)) = Some (damage.zone, damage.block)
+damage_at _ = None
 
 -- whether a selected log may take an end record
 abbrev pub can_end_in : Result Chosen Refusal → Result Bool Refusal

@@ -1,10 +1,8 @@
 -- What making a file system leaves on a device.
+pub use Rattle.superblock_core.specs.Text.{is_aux_path}
 use Rattle.std.specs.Prelude.{ℕ, ◌+◌, ◌*◌, ◌-◌, ◌/◌, ◌%◌, ◌^◌, Bool, true, false, ◌&&◌, List, [], ◌∷◌, ◌++◌, length, replicate, codes, Option, Some, None, Result, Ok, Err, nat_lt, ◌==◌, if◌then◌else◌}
-use Rattle.std.specs.List.{list_all}
-use Rattle.std.specs.Str.{is_utf8}
 use Rattle.zone_image.specs.declared.Geometry.{Geometry}
 use Rattle.zone_image.specs.Image.{Image, Zone, no_zone, zone_at}
-use Rattle.record_model.specs.Name.{is_printable}
 use Rattle.record_model.specs.Encoding.{payload_of}
 use Rattle.record_model.specs.declared.types.Record.TheVariants.{Snapshot}
 use Rattle.superblock_core.specs.Superblock.{u32_at, magic, superblock_of, superblock_bytes}
@@ -81,18 +79,6 @@ formatted_image g s = record { geometry = g; zones = durable_zone (formatted_blo
 abbrev pub identifier_of : ℕ → ℕ
 identifier_of random =
     random / 2 ^ 80 * 2 ^ 80 + 4 * 2 ^ 76 + random / 2 ^ 64 % 2 ^ 12 * 2 ^ 64 + 2 * 2 ^ 62 + random % 2 ^ 62
-
--- text without control characters
-abbrev pub is_clean_text : List ℕ → Bool
-is_clean_text text = is_utf8 text && list_all is_printable text
-
--- an auxiliary path
-abbrev pub is_aux_path : List ℕ → Bool
-is_aux_path text = nat_lt 0 (length text) && nat_lt (length text) 256 && is_clean_text text
-
--- the text of a version
-abbrev pub is_version_text : List ℕ → Bool
-is_version_text text = nat_lt (length text) 64 && is_clean_text text
 
 -- the superblock of a new file system
 abbrev pub new_superblock : Geometry → ℕ → List ℕ → ℕ → Bool → Superblock

@@ -1,21 +1,10 @@
 -- Frames of sparse files that a mount finds again, computed.
 use Rattle.std.specs.Prelude.{◌≡◌, ℕ, true, false, List, [], ◌∷◌, ◌++◌, replicate, codes, Ok, refl}
 use Rattle.zone_image.specs.Image.{Image}
-use Rattle.std.specs.Str.{is_utf8, chars}
-use lib.Utf8
-use Rattle.record_model.specs.Name.{is_name}
-use Rattle.record_model.specs.Numbers.{u64, varint}
-use Rattle.crc32c_core.specs.Checksum.{crc32c, masked}
-use Rattle.record_model.specs.Encoding.{payload_of, entry_bytes}
-use Rattle.record_model.specs.FieldDecoding.{slice_at}
-use Rattle.record_model.specs.Decoding.{record_of, entry_at}
+use Rattle.record_model.specs.Numbers.{u64}
 use Rattle.record_model.specs.declared.types.FileEntry.{FileEntry}
-use Rattle.superblock_core.specs.Superblock.{superblock_bytes, superblock_of, uuid_text}
-use Rattle.log_model.specs.LogScan.{record_blocks, scan, scan_within, first_item}
-use Rattle.log_model.specs.LogSelection.{select_log}
-use Rattle.log_model.specs.FileTable.{replay_log, after_record}
-use Rattle.log_model.specs.Frames.{frames_at}
-use Rattle.log_model.specs.Mounted.{table_of, table_in, mounted_in}
+use Rattle.log_model.specs.Mounted.{table_in, mounted_in}
+use Rattle.log_model.specs.Opened.{mounting}
 use Rattle.log_model.specs.ExampleImages.{one_log_over, file, snapshot, bytes_in, extents_in, block_of}
 
 -- a sparse file whose frames begin with the first data zone
@@ -40,35 +29,35 @@ over data_blocks = one_log_over (snapshot (started ∷ []) ∷ []) data_blocks
 
 -- one block left of two frames
 one_frame : bytes_in (mounted_in (over (abc ∷ []))) ≡ Ok (codes "abc" ∷ [])
-unfolding frames_at mounted_in table_in table_of select_log scan scan_within first_item record_blocks superblock_bytes superblock_of uuid_text payload_of entry_bytes entry_at slice_at record_of varint crc32c masked replay_log after_record is_name is_utf8 chars Utf8.encode
+unfolding mounting
 one_frame = refl
 
 -- both blocks
 two_frames : bytes_in (mounted_in (over (abc ∷ defgh ∷ []))) ≡ Ok (codes "abcdefgh" ∷ [])
-unfolding frames_at mounted_in table_in table_of select_log scan scan_within first_item record_blocks superblock_bytes superblock_of uuid_text payload_of entry_bytes entry_at slice_at record_of varint crc32c masked replay_log after_record is_name is_utf8 chars Utf8.encode
+unfolding mounting
 two_frames = refl
 
 -- their extents
 two_extents : extents_in (table_in (over (abc ∷ defgh ∷ []))) ≡ Ok (((record { start = 24584; len = 3 }) ∷ (record { start = 25096; len = 5 }) ∷ []) ∷ [])
-unfolding frames_at mounted_in table_in table_of select_log scan scan_within first_item record_blocks superblock_bytes superblock_of uuid_text payload_of entry_bytes entry_at slice_at record_of varint crc32c masked replay_log after_record is_name is_utf8 chars Utf8.encode
+unfolding mounting
 two_extents = refl
 
 -- one block of a frame of two blocks isn't found
 torn_frame : bytes_in (mounted_in (over (abc ∷ long_frame ∷ []))) ≡ Ok (codes "abc" ∷ [])
-unfolding frames_at mounted_in table_in table_of select_log scan scan_within first_item record_blocks superblock_bytes superblock_of uuid_text payload_of entry_bytes entry_at slice_at record_of varint crc32c masked replay_log after_record is_name is_utf8 chars Utf8.encode
+unfolding mounting
 torn_frame = refl
 
 -- both blocks of it are
 long_frame_found : extents_in (table_in (over (abc ∷ long_frame ∷ block_of (120 ∷ []) ∷ []))) ≡ Ok (((record { start = 24584; len = 3 }) ∷ (record { start = 25096; len = 505 }) ∷ []) ∷ [])
-unfolding frames_at mounted_in table_in table_of select_log scan scan_within first_item record_blocks superblock_bytes superblock_of uuid_text payload_of entry_bytes entry_at slice_at record_of varint crc32c masked replay_log after_record is_name is_utf8 chars Utf8.encode
+unfolding mounting
 long_frame_found = refl
 
 -- a length of 0 ends the walk
 zero_length : bytes_in (mounted_in (over (abc ∷ block_of [] ∷ defgh ∷ []))) ≡ Ok (codes "abc" ∷ [])
-unfolding frames_at mounted_in table_in table_of select_log scan scan_within first_item record_blocks superblock_bytes superblock_of uuid_text payload_of entry_bytes entry_at slice_at record_of varint crc32c masked replay_log after_record is_name is_utf8 chars Utf8.encode
+unfolding mounting
 zero_length = refl
 
 -- a file that isn't sparse gets all blocks as one extent
 rest_of_zone : extents_in (table_in (one_log_over (snapshot ((record started { sparse = false }) ∷ []) ∷ []) (abc ∷ defgh ∷ []))) ≡ Ok (((record { start = 24576; len = 1024 }) ∷ []) ∷ [])
-unfolding frames_at mounted_in table_in table_of select_log scan scan_within first_item record_blocks superblock_bytes superblock_of uuid_text payload_of entry_bytes entry_at slice_at record_of varint crc32c masked replay_log after_record is_name is_utf8 chars Utf8.encode
+unfolding mounting
 rest_of_zone = refl

@@ -5,7 +5,7 @@ use Rattle.zone_image.specs.Image.{Image}
 use Rattle.record_model.specs.declared.types.Extent.{Extent}
 use Rattle.record_model.specs.declared.types.FileEntry.{FileEntry}
 use Rattle.record_model.specs.declared.types.Record.{Record}
-use Rattle.record_model.specs.declared.types.Record.TheVariants.{Update, Deletion, Replace}
+use Rattle.record_model.specs.declared.types.Record.TheVariants.{Snapshot, Update, Deletion, End, Replace}
 use Rattle.log_model.specs.FileTable.{Table, file_of, is_among, is_named, shares_name, has_right_size, size_of, after_record}
 use Rattle.log_model.specs.FileTree.{Change, apply, id_of, renamed}
 use Rattle.log_model.specs.FileTree.Change.{Create, Grow, Link, Rename, Unlink}
@@ -87,3 +87,15 @@ abbrev pub ReplaceKeepsTree : Type 0
 ReplaceKeepsTree = (i : Image) (es : Table) (e : FileEntry) (moved : List Extent) → IsTable es → file_of e.id es ≡ Some e
     → e.size ≡ size_of moved → bytes_of i moved ≡ bytes_of i e.extents
     → (next : Table) × (after_record (Replace (record e { extents = moved })) es ≡ Ok next) × (tree_of i next ≡ tree_of i es)
+
+-- a record whose entries are those of a table, each with a name
+abbrev pub IsNamedRecord : Record → Type 0
+IsNamedRecord (Snapshot files) = IsTable files
+IsNamedRecord (Update e) = is_named e ≡ true
+IsNamedRecord (Deletion id name) = ⊤
+IsNamedRecord End = ⊤
+IsNamedRecord (Replace e) = is_named e ≡ true
+
+-- a record makes a table of a table
+abbrev pub RecordKeepsTable : Type 0
+RecordKeepsTable = (es next : Table) (r : Record) → IsTable es → IsNamedRecord r → after_record r es ≡ Ok next → IsTable next

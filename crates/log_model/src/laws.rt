@@ -1,4 +1,5 @@
 //! Laws of the definitions: each function does nothing, and its contract is a law.
+ghost use Rattle.log_model.specs.ReplayLaws.{AddedRecordIsReplayed, SnapshotIsReplayed};
 ghost use Rattle.log_model.specs.ScanLaws.{
   BoundIsFree,
   FrontScansToFront,
@@ -7,7 +8,13 @@ ghost use Rattle.log_model.specs.ScanLaws.{
   AppendAddsPayload,
   PartIsTorn,
 };
-ghost use Rattle.log_model.specs.MountLaws.{MountReadsBlocks, FrontHasFirstFrames, FramesStayInOrder};
+ghost use Rattle.log_model.specs.MountLaws.{
+  MountReadsBlocks,
+  FrontHasFirstFrames,
+  FramesStayInOrder,
+  KeptExtentStays,
+  KeptTableStays,
+};
 ghost use Rattle.log_model.specs.LogChangeLaws.{
   TornZoneIsAsEmpty,
   OtherZoneMayBeEmptied,
@@ -23,6 +30,14 @@ ghost use Rattle.log_model.specs.TableLaws.{
   DeleteIsReplayed,
   GrowIsReplayed,
   ReplaceKeepsTree,
+  RecordKeepsTable,
+};
+ghost use Rattle.log_model.specs.HeadroomLaws.{
+  DeletionKeepsRoom,
+  DeletionTakesOneBlock,
+  RoomForDeletion,
+  RecordFitsTable,
+  FewerExtentsNeedNoMore,
 };
 ghost use Rattle.log_model.specs.SelectionLaws.{
   SkippedZoneHasNoLog,
@@ -178,3 +193,54 @@ pub fn grow_is_replayed()
 pub fn replace_keeps_tree()
     ensures { ReplaceKeepsTree }
 {}
+
+/// A table with room has room still once a name is deleted.
+pub fn deletion_keeps_room()
+    ensures { DeletionKeepsRoom }
+{}
+
+/// The record of a deletion takes one block.
+pub fn deletion_takes_one_block()
+    ensures { DeletionTakesOneBlock }
+{}
+
+/// A new log with a table that has room takes one block more.
+pub fn room_for_deletion()
+    ensures { RoomForDeletion }
+{}
+
+/// A new log with a table that has room takes the update or replacement of one of its files.
+pub fn record_fits_table()
+    ensures { RecordFitsTable }
+{}
+
+/// A table whose files have no more extents than another's needs no more blocks.
+pub fn fewer_extents_need_no_more()
+    ensures { FewerExtentsNeedNoMore }
+{}
+
+/// A log without an end record, with one record more, replays to the table after that record.
+pub fn added_record_is_replayed()
+    ensures { AddedRecordIsReplayed }
+{}
+
+/// The snapshot of a table replays to that table.
+pub fn snapshot_is_replayed()
+    ensures { SnapshotIsReplayed }
+{}
+
+/// An extent within the blocks that a zone keeps has its bytes still.
+pub fn kept_extent_stays()
+    ensures { KeptExtentStays }
+{}
+
+/// A table that breaks no rule breaks none where its extents and its recovery points are kept.
+pub fn kept_table_stays()
+    ensures { KeptTableStays }
+{}
+
+/// A record makes a table of a table: ids rise, each file has a name, and no two files share one.
+pub fn record_keeps_table()
+    ensures { RecordKeepsTable }
+{
+}

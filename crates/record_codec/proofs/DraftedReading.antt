@@ -29,7 +29,7 @@ ok_is x y e = cc
 -- ---- the same value
 
 -- the extent of a slice that was read
-abbrev piece_with : List ℕ × Cursor → Reads Field
+abbrev pub piece_with : List ℕ × Cursor → Reads Field
 piece_with s = do
   bytes ← ranged (eqb (length s.0) 16 && ltb 0 (from_le_bytes w64 (drop 8 s.0))) s.0
   Ok (Piece (extent_of bytes), s.1)
@@ -38,12 +38,12 @@ piece_with s = do
 abbrev add_to : List Field → Field × Cursor → Result (EntryDraft × Cursor) DecodeFault
 add_to fs f = Ok (with_field f.0 (draft_of fs), f.1)
 
-ranged_is : {A : Type 0} (b : Bool) (x y : A) → ranged b x ≡ Ok y → x ≡ y
+pub ranged_is : {A : Type 0} (b : Bool) (x y : A) → ranged b x ≡ Ok y → x ≡ y
 ranged_is true x y e = ok_is x y e
 ranged_is false x y e = absurd cc
 
 -- the name of a slice that was read
-abbrev linked_with : (List ℕ → Bool) → List ℕ × Cursor → Reads Field
+abbrev pub linked_with : (List ℕ → Bool) → List ℕ × Cursor → Reads Field
 linked_with there s = do
   t ← once 9 (there s.0)
   name ← ranged (is_name s.0) s.0
@@ -81,7 +81,7 @@ drafted_field-same fs c = behind (number w32 c)
 
 -- ---- a field that was read is a new one
 
-once_new : (tag : ℕ) (there : Bool) (y : ℕ) → once tag there ≡ Ok y → there ≡ false
+pub once_new : (tag : ℕ) (there : Bool) (y : ℕ) → once tag there ≡ Ok y → there ≡ false
 once_new tag true y e = absurd cc
 once_new tag false y e = refl
 

@@ -3,3 +3,7 @@ pub mod Loops
 pub mod Drafts
 pub mod DraftedReading
 pub mod Entries
+pub mod Numbers
+pub mod Slices
+pub mod FieldLaws
+pub mod RecordLaws

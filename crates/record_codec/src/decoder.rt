@@ -11,6 +11,7 @@ ghost use Rattle.record_model.specs.Decoding.{
   ended,
 };
 ghost use Rattle.record_model.specs.Grammar.{Spells};
+ghost use Rattle.record_model.specs.declared.types.Record.{Record};
 ghost use Rattle.record_codec.specs.Outcome.{Gives};
 ghost use Rattle.record_codec.specs.Place.{place};
 
@@ -37,6 +38,11 @@ pub const TOO_LONG: DecodeError = DecodeError::Bad(DecodeFault {
 pub fn decode(alloc: Global, payload: &[u8]) -> Result<Record, DecodeError>
     // The value or the fault is the one that the definition of reading gives.
     ensures exact { length payload.now < 2 ^ 32 → Gives result (record_of payload.now) }
+    // What is read is spelled so, each byte of it.
+    ensures found { IfOk result (Spells payload.now) }
+    // What is spelled so is read, unless memory is wanting.
+    ensures only { (r : Record) → length payload.now < 2 ^ 32 → Spells payload.now r
+        → Gives result (Ok r) }
     // A payload that is too long is refused.
     ensures long { 2 ^ 32 ≤ length payload.now → result ≡ Err TOO_LONG }
 {

@@ -14,7 +14,7 @@ ghost use Rattle.record_model.specs.declared.field.Field.TheVariants.{Piece, Lin
 
 use crate::length::{deletion_len, encoded_len, entry_len, files_len};
 use crate::varint::push_varint;
-use record_model::{Extent, FieldKind, FileEntry, Name, Payload, Record};
+use record_model::{Extent, FieldKind, FileEntry, Name, Payload, Record, RecordKind};
 use std::alloc::{AllocError, Global};
 
 /// The payload that spells the record.
@@ -35,23 +35,23 @@ fn push_record(out: &mut Vec<u8>, value: &Record) -> Result<(), AllocError>
 {
     match value {
         Record::Snapshot(files) => {
-            push_u32(out, 1)?;
+            push_u32(out, RecordKind::Snapshot.tag())?;
             push_varint(out, files_len(files.items()))?;
             push_files(out, files.items())
         }
         Record::Update(file) => {
-            push_u32(out, 2)?;
+            push_u32(out, RecordKind::Update.tag())?;
             push_sliced_entry(out, file)
         }
         Record::Deletion { id, name } => {
-            push_u32(out, 3)?;
+            push_u32(out, RecordKind::Deletion.tag())?;
             push_varint(out, deletion_len(name))?;
             push_u64(out, *id)?;
             push_slice(out, name.items())
         }
-        Record::End => push_u32(out, 4),
+        Record::End => push_u32(out, RecordKind::End.tag()),
         Record::Replace(file) => {
-            push_u32(out, 5)?;
+            push_u32(out, RecordKind::Replace.tag())?;
             push_sliced_entry(out, file)
         }
     }

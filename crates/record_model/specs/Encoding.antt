@@ -2,6 +2,8 @@
 use Rattle.std.specs.Prelude.{ℕ, List, [], ◌∷◌, ◌++◌, length, map, flat_map, if◌then◌else◌}
 use Rattle.record_model.specs.Numbers.{u32, u64, varint}
 use Rattle.record_model.specs.declared.field.Field.{Field}
+use Rattle.record_model.specs.declared.field.RecordKind.{RecordKind}
+use Rattle.record_model.specs.declared.field.RecordKind.TheVariants as records
 use Rattle.record_model.specs.declared.field.FieldKind.{FieldKind}
 use Rattle.record_model.specs.declared.field.FieldKind.TheVariants as kinds
 use Rattle.record_model.specs.declared.field.Field.TheVariants.{Id, Size, Hint, Piece, Time, Active, Sparse, Linked}
@@ -34,6 +36,14 @@ kind_tag kinds.Time = 6
 kind_tag kinds.Active = 7
 kind_tag kinds.Sparse = 8
 kind_tag kinds.Linked = 9
+
+-- the tag of a kind of record
+abbrev pub record_tag : RecordKind → ℕ
+record_tag records.Snapshot = 1
+record_tag records.Update = 2
+record_tag records.Deletion = 3
+record_tag records.End = 4
+record_tag records.Replace = 5
 
 -- the bytes of a field's value
 abbrev pub value_bytes : Field → List ℕ

@@ -89,6 +89,7 @@ pub enum RecordKind {
 
 impl RecordKind {
     ghost use Rattle.record_model.specs.Decoding.{record_kind_of};
+    ghost use Rattle.record_model.specs.Encoding.{record_tag};
 
     /// The kind of record that has this tag, where there is one.
     pub fn of_tag(tag: u32) -> Option<RecordKind>
@@ -101,6 +102,19 @@ impl RecordKind {
             4 => Some(RecordKind::End),
             5 => Some(RecordKind::Replace),
             _ => None,
+        }
+    }
+
+    /// The tag of a record of this kind.
+    pub fn tag(self) -> u32
+        ensures { result ≡ record_tag self }
+    {
+        match self {
+            RecordKind::Snapshot => 1,
+            RecordKind::Update => 2,
+            RecordKind::Deletion => 3,
+            RecordKind::End => 4,
+            RecordKind::Replace => 5,
         }
     }
 }

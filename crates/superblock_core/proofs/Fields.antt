@@ -1,5 +1,5 @@
 -- Fields of text, and the tests of text.
-use Rattle.std.proofs.Common.{◌≡◌, ℕ, ◌-◌, ◌<◌, Bool, true, false, ◌&&◌, List, ◌++◌, length, take, drop, replicate, Option, Some, None, IsTrue, position, ◌==◌, if◌then◌else◌, refl, sym, ap, subst, ◌∙◌, arith}
+use Rattle.std.proofs.Common.{◌≡◌, ℕ, ◌<◌, Bool, true, false, ◌&&◌, List, ◌++◌, length, take, drop, replicate, Some, None, IsTrue, position, ◌==◌, if◌then◌else◌, refl, sym, ap, subst, ◌∙◌}
 use Rattle.std.proofs.Math.Seq.{take-append_seam}
 use Rattle.std.proofs.lemmas.List.{drop-replicate}
 use Rattle.std.specs.Option.{option_and_then}

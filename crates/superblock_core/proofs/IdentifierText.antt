@@ -1,10 +1,10 @@
 -- The text of an identifier is read as it was written.
-use Rattle.std.proofs.Common.{◌≡◌, ℕ, zero, suc, ◌+◌, ◌-◌, ◌*◌, ◌/◌, ◌%◌, ◌^◌, ◌<◌, ◌≤◌, ◌==◌, if◌then◌else◌, Bool, true, false, not, ◌&&◌, List, [], ◌∷◌, ◌++◌, length, take, Option, Some, None, refl, sym, ap, ◌∙◌, arith, append_assoc, pow_pos}
+use Rattle.std.proofs.Common.{◌≡◌, ℕ, zero, suc, ◌+◌, ◌*◌, ◌/◌, ◌%◌, ◌^◌, ◌<◌, ◌==◌, if◌then◌else◌, Bool, true, false, not, ◌&&◌, List, [], ◌∷◌, ◌++◌, take, Some, None, refl, sym, ap, ◌∙◌, arith, append_assoc}
 use Rattle.std.proofs.lemmas.Bool.Decides.{nat_tests}
 use Rattle.std.proofs.Math.Arith.{mod-mul}
 use Rattle.std.proofs.Math.Nat.{pow-suc, one-le-pow, mul_assoc}
 use Rattle.std.specs.Option.{option_and_then, option_map}
-use Rattle.superblock_core.specs.Superblock.{hex_value, hex_digit, hex_digits, is_hyphen_place, after_character, uuid_from, uuid_in, uuid_text, uuid_part}
+use Rattle.superblock_core.specs.Superblock.{hex_value, hex_digit, hex_digits, is_hyphen_place, uuid_from, uuid_in, uuid_text}
 use Rattle.superblock_core.specs.Text.{padded}
 
 -- a digit is read as its value

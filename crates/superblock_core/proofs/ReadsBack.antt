@@ -1,9 +1,9 @@
 -- A superblock is read as it was written.
-use Rattle.std.proofs.Common.{◌≡◌, ℕ, suc, ◌+◌, ◌-◌, ◌^◌, ◌<◌, ◌≤◌, Bool, true, false, not, List, [], ◌∷◌, ◌++◌, length, take, drop, replicate, Option, Some, Result, Ok, Err, nat_lt, ◌==◌, if◌then◌else◌, refl, sym, ap, ◌∙◌, arith, append_assoc, length-append}
+use Rattle.std.proofs.Common.{◌≡◌, ℕ, ◌-◌, ◌^◌, ◌<◌, ◌≤◌, false, not, List, [], ◌∷◌, ◌++◌, length, replicate, Option, Some, Result, Ok, Err, nat_lt, ◌==◌, if◌then◌else◌, refl, ap, ◌∙◌, arith, append_assoc, length-append}
 use Rattle.std.proofs.lemmas.List.{append-nil, length-replicate}
 use Rattle.std.proofs.lemmas.Bool.Decides.{nat_tests}
 use Rattle.std.proofs.lemmas.Nat.{from_le_bytes-to_le_bytes_4}
-use Rattle.std.specs.Int.{w32, from_le_bytes, to_le_bytes}
+use Rattle.std.specs.Int.{w32, from_le_bytes}
 use Rattle.record_model.specs.Numbers.{u32}
 use Rattle.superblock_core.specs.declared.superblock.Superblock.{Superblock}
 use Rattle.superblock_core.specs.Text.{padded, text_in, FitsField}

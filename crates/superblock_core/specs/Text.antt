@@ -1,5 +1,5 @@
 -- Fields of text.
-use Rattle.std.specs.Prelude.{◌≡◌, ℕ, ◌-◌, ◌<◌, Bool, ◌&&◌, List, ◌++◌, length, take, replicate, position, Option, Some, None, IsTrue, nat_le, ◌==◌, if◌then◌else◌}
+use Rattle.std.specs.Prelude.{ℕ, ◌-◌, ◌<◌, Bool, ◌&&◌, List, ◌++◌, length, take, replicate, position, Option, Some, None, IsTrue, nat_le, ◌==◌, if◌then◌else◌}
 use Rattle.std.specs.List.{list_all}
 use Rattle.std.specs.Option.{option_and_then}
 use Rattle.record_model.specs.Name.{is_printable, is_text}

@@ -1,9 +1,11 @@
 -- Bytes as blocks: all arithmetic with the size of a block stands here.
-use Rattle.std.proofs.Common.{◌≡◌, ℕ, zero, suc, ◌+◌, ◌-◌, ◌*◌, ◌/◌, ◌%◌, ◌≤◌, List, [], ◌∷◌, ◌++◌, length, take, drop, refl, sym, ◌∙◌, ap, arith, length-drop}
+use Rattle.std.proofs.Common.{◌≡◌, ℕ, zero, suc, ◌+◌, ◌-◌, ◌*◌, ◌/◌, ◌%◌, ◌<◌, ◌≤◌, ◌⊎◌, ⊎_elim, List, [], ◌∷◌, ◌++◌, length, take, drop, refl, sym, ◌∙◌, ap, arith, length-drop}
 use Rattle.std.specs.List.{All, concat}
-use Rattle.std.proofs.lemmas.List.{nil_from_length, take-append-le, drop-append-le, take-take, drop-take, length-take-le, drop-drop}
+use Rattle.std.proofs.lemmas.List.{take_all, nil_from_length, take-append-le, drop-append-le, take-take, drop-take, length-take-le, drop-drop}
 use Rattle.std.proofs.lemmas.List.Elements.{All-nil, All-cons}
 use Rattle.std.proofs.Math.Seq.{take-add}
+use Rattle.std.proofs.lemmas.Bool.{cases_lt}
+use Rattle.std.proofs.Math.Nat.{mul-le-mul_right, mul-div_left}
 use Rattle.std.proofs.lemmas.Nat.{div-add-mod'}
 use Rattle.zone_image.specs.declared.Geometry.{Geometry}
 use Rattle.zone_image.specs.Changes.{chunks, blocks_in}
@@ -92,3 +94,26 @@ length-blocks_in g bytes = length-chunks g.block (length bytes / g.block) bytes
 
 pub All-blocks_in : (g : Geometry) (bytes : List ℕ) → length bytes % g.block ≡ 0 → All (λ b. length b ≡ g.block) (blocks_in g bytes)
 All-blocks_in g bytes whole = All-chunks g.block (length bytes / g.block) bytes (omega (arith, whole_bytes (length bytes) g.block whole))
+
+-- the first bytes of whole blocks are the first blocks
+pub blocks_in-take : (g : Geometry) (n : ℕ) (bytes : List ℕ) → 0 < g.block → length bytes % g.block ≡ 0 → blocks_in g (take (n * g.block) bytes) ≡ take n (blocks_in g bytes)
+blocks_in-take g n bytes some whole = ⊎_elim
+    (λ beyond. all (omega (arith, beyond)))
+    (λ within. part within)
+    (cases_lt (length bytes / g.block) n)
+  where
+    size : length bytes / g.block * g.block ≡ length bytes
+    size = whole_bytes (length bytes) g.block whole
+
+    all : length bytes / g.block ≤ n → blocks_in g (take (n * g.block) bytes) ≡ take n (blocks_in g bytes)
+    all le =
+        let long : length bytes ≤ n * g.block = omega (arith, size, mul-le-mul_right g.block le) in
+        ap (blocks_in g) (take_all (n * g.block) bytes long) ∙ sym (take_all n (blocks_in g bytes) (omega (arith, length-blocks_in g bytes, le)))
+
+    part : n ≤ length bytes / g.block → blocks_in g (take (n * g.block) bytes) ≡ take n (blocks_in g bytes)
+    part le =
+        let fits : n * g.block ≤ length bytes = omega (arith, size, mul-le-mul_right g.block le) in
+        let number : length (take (n * g.block) bytes) / g.block ≡ n = ap (λ k. k / g.block) (length-take-le (n * g.block) bytes fits) ∙ mul-div_left n some in
+        ap (λ k. chunks g.block k (take (n * g.block) bytes)) number
+        ∙ chunks-take g.block n bytes
+        ∙ sym (take-chunks g.block n (length bytes / g.block) bytes le)

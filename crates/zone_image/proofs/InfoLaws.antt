@@ -176,3 +176,7 @@ valid_blank g valid = record {
 -- a device's image has what it tells
 pub image_of_valid : (i : Image) → IsValidImage i → IsImage i.geometry (infos_of i) i
 image_of_valid i is = record { shape = refl; told = refl; zones = is.zones }
+
+-- a block has a byte
+pub some_block : (g : Geometry) → IsTrue (is_valid g) → 0 < g.block
+some_block g valid = grind (arith, valid)

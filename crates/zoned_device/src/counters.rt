@@ -3,7 +3,7 @@ ghost use Rattle.std.specs.Prelude.{◌≡◌};
 ghost use Rattle.zone_image.specs.Counts.{next_count, next_tick};
 
 /// The last tick of a device.
-const LAST_TICK: u64 = u64::MAX - 1;
+pub(crate) const LAST_TICK: u64 = u64::MAX - 1;
 
 /// The tick after a call.
 pub(crate) fn tick_after(tick: u64) -> u64

@@ -1,4 +1,4 @@
-use Rattle.std.proofs.Common.{◌≡◌, ◌∙◌, sym, arith, length, take}
+use Rattle.std.proofs.Common.{◌≡◌, arith, length}
 use Rattle.superblock_core.proofs.HexDigits.{uuid_text-parts, taken_whole}
 use Rattle.superblock_core.proofs.identifier.field.Goals as goal
 

@@ -1,4 +1,4 @@
-use Rattle.std.proofs.Common.{◌∙◌, ◌-◌, ◌≡◌, length, arith, length-set}
+use Rattle.std.proofs.Common.{◌∙◌, ◌-◌, arith, length-set}
 use Rattle.superblock_core.proofs.HexDigits.{hex_digits-next}
 use Rattle.superblock_core.proofs.identifier.hex_digits.Goals as goal
 

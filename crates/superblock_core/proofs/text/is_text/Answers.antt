@@ -1,4 +1,4 @@
-use Rattle.std.proofs.Common.{◌≡◌, ◌∙◌, ap}
+use Rattle.std.proofs.Common.{◌∙◌, ap}
 use Rattle.std.specs.List.{list_all}
 use Rattle.record_model.specs.Name.{is_printable}
 use Rattle.superblock_core.proofs.Fields.{is_text-of_utf8, is_text-of_no_utf8}

@@ -1,5 +1,3 @@
-use Rattle.std.proofs.Common.{subst, sym, List, ℕ, ◌≡◌, ◌++◌, length, take, drop, replicate}
-use Rattle.superblock_core.specs.Text.{padded, FitsField}
 use Rattle.superblock_core.proofs.Fields.{padded-of_text}
 use Rattle.superblock_core.proofs.text.FieldText.new.Goals as goal
 

@@ -1,0 +1,19 @@
+-- What the replay of a log makes of one record more, and of a snapshot.
+use Rattle.std.specs.Prelude.{◌≡◌, ℕ, true, false, List, [], ◌∷◌, ◌++◌, Ok}
+use Rattle.std.specs.List.{AllByRecursion}
+use Rattle.record_model.specs.Decoding.{record_of}
+use Rattle.record_model.specs.declared.types.Record.{Record}
+use Rattle.record_model.specs.declared.types.Record.TheVariants.{Snapshot}
+use Rattle.log_model.specs.LogScan.{has_end}
+use Rattle.log_model.specs.FileTable.{Table, has_right_size, after_record, replay_log}
+use Rattle.log_model.specs.TableLaws.{IsTable}
+
+-- a log without an end record, and one record more
+abbrev pub AddedRecordIsReplayed : Type 0
+AddedRecordIsReplayed = (payloads : List (ℕ × List ℕ)) (at : ℕ) (payload : List ℕ) (r : Record) (es next : Table) → replay_log payloads ≡ Ok es
+    → has_end payloads ≡ false → record_of payload ≡ Ok r → after_record r es ≡ Ok next
+    → replay_log (payloads ++ (at, payload) ∷ []) ≡ Ok next
+
+-- the snapshot of a table gives the table
+abbrev pub SnapshotIsReplayed : Type 0
+SnapshotIsReplayed = (es before : Table) → IsTable es → AllByRecursion (λ e. has_right_size e ≡ true) es → after_record (Snapshot es) before ≡ Ok es

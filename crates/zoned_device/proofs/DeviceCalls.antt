@@ -1,0 +1,116 @@
+-- The clauses of a changing call, from what it makes of the content and the counts.
+use Rattle.std.proofs.Common.{◌≡◌, ◌⊎◌, inl, inr, ⊎_elim, ℕ, ◌+◌, ◌≤◌, ◌<◌, Bool, true, false, List, length, take, Option, None, Some, Result, Ok, Err, refl, sym, ◌∙◌, ap, subst, arith}
+use Rattle.std.specs.Prelude.{is_ok, OnOk, OnErr}
+use Rattle.zone_image.specs.Counts.{last_tick, next_tick}
+use Rattle.zone_image.specs.Image.{Image, IsCrash}
+use Rattle.zone_image.specs.Changes.{appended, finished, emptied, synced}
+use Rattle.zone_image.specs.Infos.{infos_of, infos_appended, infos_finished, infos_emptied, IsValidImage, Shows, ShowsSome}
+use Rattle.zone_image.specs.Moments.{LeavesOnly}
+use Rattle.zone_image.proofs.InfoLaws.{infos-appended, infos-finished, infos-emptied, infos-synced}
+use Rattle.zoned_device.specs.CallState.{CallState, IsWithinLimits, fault_of}
+use Rattle.zoned_device.specs.Content.{Change, Append, Finish, Reset, Sync, Content, after, Passes, AllBefore, LeftBy, with_change, part_of, content_after, is_done, calls_after}
+use Rattle.zoned_device.specs.MemState.{MemState, image_of, tick_of, since_of, IsKnown, BeganBefore}
+use Rattle.zoned_device.proofs.Changes.{CanDo}
+use Rattle.zoned_device.proofs.MemCalls.{IsFront, part_is, outcome, valid, began, leaves, same_geometry, done_whole, rises}
+use Rattle.zoned_device.proofs.Leaves.{push_last, tick_rises, leaves_same, began_later}
+
+pub on_ok : {T E : Type 0} {P : Type 0} (r : Result T E) (done : Bool) → is_ok r ≡ done → (done ≡ true → P) → OnOk r P
+on_ok (Ok x) done answer then = then (sym answer)
+on_ok (Err e) done answer then = tt
+
+pub on_err : {T E : Type 0} {P : Type 0} (r : Result T E) → P → OnErr r P
+on_err (Ok x) p = tt
+on_err (Err e) p = p
+
+module _ (old : MemState) (c : Content) (s : CallState) (ch : Change) (is : ◌≡◌ {A = MemState} (record { content = Some c; calls = s }) old) (known : IsKnown old) (can : CanDo ch (image_of old))
+    (all : AllBefore s.tick c.events) (within : IsWithinLimits s)
+    (new : Content) (calls : CallState) (content : new ≡ content_after s ch c) (counts : calls ≡ calls_after s ch c) where
+  known_c : IsValidImage c.standing
+  known_c = subst IsKnown (sym is) known
+
+  can_c : CanDo ch c.standing
+  can_c = subst (λ m. CanDo ch (image_of m)) (sym is) can
+
+  image_is : c.standing ≡ image_of old
+  image_is = ap image_of is
+
+  pub call_valid : IsValidImage new.standing
+  call_valid = subst (λ (e : Content). IsValidImage e.standing) (sym content) (valid c s ch known_c can_c all within.tick)
+
+  pub call_began : AllBefore calls.tick new.events
+  call_began =
+      subst (λ (k : CallState). AllBefore k.tick new.events) (sym counts)
+      (subst (λ (e : Content). AllBefore (calls_after s ch c).tick e.events) (sym content) (began c s ch known_c can_c all within.tick))
+
+  pub call_geometry : new.standing.geometry ≡ (image_of old).geometry
+  call_geometry = ap (λ (e : Content). e.standing.geometry) content ∙ same_geometry c s ch known_c can_c all within.tick ∙ ap (λ (i : Image). i.geometry) image_is
+
+  pub call_leaves : LeavesOnly tick_of since_of old (record { content = Some new; calls = calls }) (Passes ch (image_of old))
+  call_leaves =
+      subst (λ (m : MemState). LeavesOnly tick_of since_of m (record { content = Some new; calls = calls }) (Passes ch (image_of m))) is
+      (subst (λ (k : CallState). LeavesOnly tick_of since_of (record { content = Some c; calls = s }) (record { content = Some new; calls = k }) (Passes ch c.standing)) (sym counts)
+      (subst (λ (e : Content). LeavesOnly tick_of since_of (record { content = Some c; calls = s }) (record { content = Some e; calls = calls_after s ch c }) (Passes ch c.standing)) (sym content)
+      (leaves c s ch known_c can_c all within.tick)))
+
+  pub call_done : is_done s ch c ≡ true → new.standing ≡ after ch (image_of old)
+  call_done done = ap (λ (e : Content). e.standing) (content ∙ done_whole c s ch done) ∙ ap (after ch) image_is
+
+  -- nothing is done, or the whole change, or the first blocks of an append
+  pub call_stands : (new.standing ≡ image_of old) ⊎ ((d : Change) × ((d ≡ ch) ⊎ IsFront ch d) × (new.standing ≡ after d (image_of old)))
+  call_stands = ⊎_elim
+      (λ same. inl (ap (λ (e : Content). e.standing) (content ∙ same) ∙ image_is))
+      (λ done. inr (done.0, part_is (fault_of s) ch done.0 done.1, ap (λ (e : Content). e.standing) (content ∙ done.2) ∙ ap (after done.0) image_is))
+      (outcome c s ch)
+
+  -- since the begin a crash might have left one of what stands, and one within what was done
+  pub call_since : (j : Image) → (new.standing ≡ image_of old → IsCrash (image_of old) j)
+      → ((d : Change) → (d ≡ ch) ⊎ IsFront ch d → new.standing ≡ after d (image_of old) → Passes d (image_of old) j)
+      → since_of (record { content = Some new; calls = calls }) (tick_of old) j
+  call_since j same done = ⊎_elim
+      (λ none. let stays : new.standing ≡ image_of old = ap (λ (e : Content). e.standing) (content ∙ none) ∙ image_is in
+      inl (subst (λ i. IsCrash i j) (sym stays) (same stays)))
+      (λ some. let made : new.standing ≡ after some.0 (image_of old) = ap (λ (e : Content). e.standing) (content ∙ some.2) ∙ ap (after some.0) image_is in
+      let passed : Passes some.0 c.standing j = subst (λ i. Passes some.0 i j) (sym image_is) (done some.0 (part_is (fault_of s) ch some.0 some.1) made) in
+      let soon : s.tick < calls.tick = subst (λ (k : CallState). s.tick < k.tick) (sym counts) (rises c s ch known_c can_c all within.tick some.0 some.1) in
+      let left : LeftBy (with_change s.tick some.0 c).events s.tick calls.tick j = push_last c.events (record { tick = s.tick; image = c.standing; change = some.0 }) s.tick calls.tick j (omega arith, soon, passed) in
+      inr (subst (λ t. LeftBy new.events t calls.tick j) (ap tick_of is) (subst (λ (e : Content). LeftBy e.events s.tick calls.tick j) (sym (content ∙ some.2)) left)))
+      (outcome c s ch)
+
+-- what is shown after a failed finish or reset
+pub shows_same : (i j : Image) → j ≡ i → Shows (Unit {0}) (infos_of i) i (infos_of j) j
+shows_same i j same = record { same_infos = ap infos_of same; same_image = λ _. same }
+
+pub finish_shows : (i j : Image) (zone : ℕ) → (j ≡ i) ⊎ ((d : Change) × ((d ≡ Finish zone) ⊎ IsFront (Finish zone) d) × (j ≡ after d i))
+    → Shows (Unit {0}) (infos_of i) i (infos_of j) j ⊎ Shows (Unit {0}) (infos_finished (infos_of i) zone) (finished i zone) (infos_of j) j
+finish_shows i j zone (inl same) = inl (shows_same i j same)
+finish_shows i j zone (inr done) = ⊎_elim
+    (λ whole. let new : j ≡ finished i zone = done.2 ∙ ap (λ d. after d i) whole in inr (record { same_infos = ap infos_of new ∙ infos-finished i zone; same_image = λ _. new }))
+    (λ front. let none = front.whole in cc)
+    done.1
+
+pub reset_shows : (i j : Image) (zone : ℕ) → (j ≡ i) ⊎ ((d : Change) × ((d ≡ Reset zone) ⊎ IsFront (Reset zone) d) × (j ≡ after d i))
+    → Shows (Unit {0}) (infos_of i) i (infos_of j) j ⊎ Shows (Unit {0}) (infos_emptied (infos_of i) zone) (emptied i zone) (infos_of j) j
+reset_shows i j zone (inl same) = inl (shows_same i j same)
+reset_shows i j zone (inr done) = ⊎_elim
+    (λ whole. let new : j ≡ emptied i zone = done.2 ∙ ap (λ d. after d i) whole in inr (record { same_infos = ap infos_of new ∙ infos-emptied i zone; same_image = λ _. new }))
+    (λ front. let none = front.whole in cc)
+    done.1
+
+-- a sync changes none of the told numbers
+pub sync_infos : (i j : Image) → (j ≡ i) ⊎ ((d : Change) × ((d ≡ Sync) ⊎ IsFront Sync d) × (j ≡ after d i)) → infos_of j ≡ infos_of i
+sync_infos i j (inl same) = ap infos_of same
+sync_infos i j (inr done) = ⊎_elim
+    (λ whole. ap infos_of (done.2 ∙ ap (λ d. after d i) whole) ∙ infos-synced i)
+    (λ front. let none = front.whole in cc)
+    done.1
+
+-- a call that changes no image
+module _ (old : MemState) (o : Option Content) (s calls : CallState) (is : ◌≡◌ {A = MemState} (record { content = o; calls = s }) old) (all : BeganBefore s.tick o) (within : IsWithinLimits s) (ticks : calls.tick ≡ next_tick s.tick) where
+  quiet_later : s.tick ≤ calls.tick
+  quiet_later = omega (arith, ticks, tick_rises s.tick within.tick)
+
+  pub quiet_began : BeganBefore calls.tick o
+  quiet_began = began_later s.tick calls.tick o quiet_later all
+
+  pub quiet_leaves : LeavesOnly tick_of since_of old (record { content = o; calls = calls }) (IsCrash (image_of old))
+  quiet_leaves = subst (λ (m : MemState). LeavesOnly tick_of since_of m (record { content = o; calls = calls }) (IsCrash (image_of m))) is (leaves_same o s calls quiet_later all)

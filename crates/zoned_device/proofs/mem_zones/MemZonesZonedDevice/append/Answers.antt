@@ -1,0 +1,57 @@
+use Rattle.std.proofs.Common.{◌≡◌, Some, List, sym, ◌∙◌, ap, subst, refl}
+use Rattle.std.specs.Prelude.{is_ok}
+use Rattle.zone_image.specs.Changes.{blocks_in}
+use Rattle.zone_image.specs.Infos.{infos_of, IsValidImage}
+use Rattle.zone_image.proofs.InfoLaws.{infos_written}
+use Rattle.zoned_device.specs.Content.{Content, Append, AllBefore, content_after, calls_after, is_done}
+use Rattle.zoned_device.specs.MemState.{MemState, image_of, IsKnown, BeganBefore}
+use Rattle.zoned_device.proofs.Changes.{CanAppend}
+use Rattle.zoned_device.proofs.DeviceAppends.{can_append, append_shows, passed_same, passed_part}
+use Rattle.zoned_device.proofs.DeviceCalls.{on_ok, on_err, call_valid, call_began, call_leaves, call_done, call_stands, call_since}
+use Rattle.zoned_device.proofs.mem_zones.MemZonesZonedDevice.append.Goals as goal
+
+-- the device has the content that the call is made with
+old_is : (c : goal.After-append) → ◌≡◌ {A = MemState} (record { content = Some c.in-Some.record; calls = c.self.inside.calls }) c.args.self.now
+old_is c = sym (ap (λ o. record { content = o; calls = c.self.inside.calls }) c.in-Some.is) ∙ c.self.view_is
+
+began_is : (c : goal.After-append) → AllBefore c.self.inside.calls.tick c.in-Some.record.events
+began_is c = subst (BeganBefore c.self.inside.calls.tick) c.in-Some.is c.self.invariant
+
+can : (c : goal.After-append) → CanAppend (image_of c.args.self.now) c.args.zone (blocks_in (image_of c.args.self.now).geometry c.args.bytes.now)
+can c = can_append (image_of c.args.self.now) c.args.zone c.args.bytes.now c.requires.is_zone c.requires.some c.requires.whole c.requires.unsealed c.requires.room c.requires.active
+
+image_is : (c : goal.After-append) → IsValidImage (image_of c.args.self.now)
+image_is c = subst (λ (m : MemState). IsValidImage (image_of m)) (old_is c) (subst IsKnown (sym (old_is c)) c.requires.is_known)
+
+same_blocks : (c : goal.After-append) → blocks_in c.in-Some.record.standing.geometry c.args.bytes.now ≡ blocks_in (image_of c.args.self.now).geometry c.args.bytes.now
+same_blocks c = ap (λ (m : MemState). blocks_in (image_of m).geometry c.args.bytes.now) (old_is c)
+
+content_is : (c : goal.After-append) → c.append.new.record ≡ content_after c.self.inside.calls (Append c.args.zone (blocks_in (image_of c.args.self.now).geometry c.args.bytes.now)) c.in-Some.record
+content_is c = c.append.ensures.content ∙ ap (λ bs. content_after c.self.inside.calls (Append c.args.zone bs) c.in-Some.record) (same_blocks c)
+
+counts_is : (c : goal.After-append) → c.append.new.calls ≡ calls_after c.self.inside.calls (Append c.args.zone (blocks_in (image_of c.args.self.now).geometry c.args.bytes.now)) c.in-Some.record
+counts_is c = c.append.ensures.counts ∙ ap (λ bs. calls_after c.self.inside.calls (Append c.args.zone bs) c.in-Some.record) (same_blocks c)
+
+answer_is : (c : goal.After-append) → is_ok c.append.result ≡ is_done c.self.inside.calls (Append c.args.zone (blocks_in (image_of c.args.self.now).geometry c.args.bytes.now)) c.in-Some.record
+answer_is c = c.append.ensures.answer ∙ ap (λ bs. is_done c.self.inside.calls (Append c.args.zone bs) c.in-Some.record) (same_blocks c)
+
+pub invariant_of-self : goal.invariant_of-self
+invariant_of-self c = call_began c.args.self.now c.in-Some.record c.self.inside.calls (Append c.args.zone (blocks_in (image_of c.args.self.now).geometry c.args.bytes.now)) (old_is c) c.requires.is_known (can c) (began_is c) c.append.ensures.within c.append.new.record c.append.new.calls (content_is c) (counts_is c)
+
+pub returns-clause-still_known : goal.returns-clause-still_known
+returns-clause-still_known c = call_valid c.args.self.now c.in-Some.record c.self.inside.calls (Append c.args.zone (blocks_in (image_of c.args.self.now).geometry c.args.bytes.now)) (old_is c) c.requires.is_known (can c) (began_is c) c.append.ensures.within c.append.new.record c.append.new.calls (content_is c) (counts_is c)
+
+pub returns-clause-passes : goal.returns-clause-passes
+returns-clause-passes c = call_leaves c.args.self.now c.in-Some.record c.self.inside.calls (Append c.args.zone (blocks_in (image_of c.args.self.now).geometry c.args.bytes.now)) (old_is c) c.requires.is_known (can c) (began_is c) c.append.ensures.within c.append.new.record c.append.new.calls (content_is c) (counts_is c)
+
+pub returns-clause-new_infos : goal.returns-clause-new_infos
+returns-clause-new_infos c = on_ok c.append.result _ (answer_is c) (λ done. ap infos_of (call_done c.args.self.now c.in-Some.record c.self.inside.calls (Append c.args.zone (blocks_in (image_of c.args.self.now).geometry c.args.bytes.now)) (old_is c) c.requires.is_known (can c) (began_is c) c.append.ensures.within c.append.new.record c.append.new.calls (content_is c) (counts_is c) done) ∙ infos_written (image_of c.args.self.now) c.args.zone c.args.bytes.now)
+
+pub returns-clause-after_fault : goal.returns-clause-after_fault
+returns-clause-after_fault c = on_err c.append.result (append_shows (image_of c.args.self.now) c.append.new.record.standing c.args.zone (blocks_in (image_of c.args.self.now).geometry c.args.bytes.now) (can c) (image_is c) (call_stands c.args.self.now c.in-Some.record c.self.inside.calls (Append c.args.zone (blocks_in (image_of c.args.self.now).geometry c.args.bytes.now)) (old_is c) c.requires.is_known (can c) (began_is c) c.append.ensures.within c.append.new.record c.append.new.calls (content_is c) (counts_is c)))
+
+pub returns-clause-passed : goal.returns-clause-passed
+returns-clause-passed c = λ k j told le crash.
+    call_since c.args.self.now c.in-Some.record c.self.inside.calls (Append c.args.zone (blocks_in (image_of c.args.self.now).geometry c.args.bytes.now)) (old_is c) c.requires.is_known (can c) (began_is c) c.append.ensures.within c.append.new.record c.append.new.calls (content_is c) (counts_is c) j
+    (λ same. passed_same (image_of c.args.self.now) c.append.new.record.standing c.args.zone (blocks_in (image_of c.args.self.now).geometry c.args.bytes.now) (can c) (image_is c) k j le same crash)
+    (λ d part stands. passed_part (image_of c.args.self.now) c.append.new.record.standing c.args.zone (blocks_in (image_of c.args.self.now).geometry c.args.bytes.now) (can c) (image_is c) k j le d part stands crash)

@@ -1,0 +1,29 @@
+use Rattle.std.proofs.Common.{◌≡◌, Some, List, sym, ◌∙◌, ap, subst, refl}
+use Rattle.zone_image.specs.Infos.{infos_of}
+use Rattle.zone_image.proofs.InfoLaws.{infos-finished}
+use Rattle.zoned_device.specs.Content.{Content, Finish, AllBefore}
+use Rattle.zoned_device.specs.MemState.{MemState, image_of, BeganBefore}
+use Rattle.zoned_device.proofs.DeviceCalls.{on_ok, on_err, call_valid, call_began, call_leaves, call_done, call_stands, finish_shows}
+use Rattle.zoned_device.proofs.mem_zones.MemZonesZonedDevice.finish.Goals as goal
+
+-- the device has the content that the call is made with
+old_is : (c : goal.After-finish) → ◌≡◌ {A = MemState} (record { content = Some c.in-Some.record; calls = c.self.inside.calls }) c.args.self.now
+old_is c = sym (ap (λ o. record { content = o; calls = c.self.inside.calls }) c.in-Some.is) ∙ c.self.view_is
+
+began_is : (c : goal.After-finish) → AllBefore c.self.inside.calls.tick c.in-Some.record.events
+began_is c = subst (BeganBefore c.self.inside.calls.tick) c.in-Some.is c.self.invariant
+
+pub invariant_of-self : goal.invariant_of-self
+invariant_of-self c = call_began c.args.self.now c.in-Some.record c.self.inside.calls (Finish c.args.zone) (old_is c) c.requires.is_known (c.requires.is_zone) (began_is c) c.finish.ensures.within c.finish.new.record c.finish.new.calls c.finish.ensures.content c.finish.ensures.counts
+
+pub returns-clause-still_known : goal.returns-clause-still_known
+returns-clause-still_known c = call_valid c.args.self.now c.in-Some.record c.self.inside.calls (Finish c.args.zone) (old_is c) c.requires.is_known (c.requires.is_zone) (began_is c) c.finish.ensures.within c.finish.new.record c.finish.new.calls c.finish.ensures.content c.finish.ensures.counts
+
+pub returns-clause-passes : goal.returns-clause-passes
+returns-clause-passes c = call_leaves c.args.self.now c.in-Some.record c.self.inside.calls (Finish c.args.zone) (old_is c) c.requires.is_known (c.requires.is_zone) (began_is c) c.finish.ensures.within c.finish.new.record c.finish.new.calls c.finish.ensures.content c.finish.ensures.counts
+
+pub returns-clause-new_infos : goal.returns-clause-new_infos
+returns-clause-new_infos c = on_ok c.finish.result _ c.finish.ensures.answer (λ done. ap infos_of (call_done c.args.self.now c.in-Some.record c.self.inside.calls (Finish c.args.zone) (old_is c) c.requires.is_known (c.requires.is_zone) (began_is c) c.finish.ensures.within c.finish.new.record c.finish.new.calls c.finish.ensures.content c.finish.ensures.counts done) ∙ infos-finished (image_of c.args.self.now) c.args.zone)
+
+pub returns-clause-after_fault : goal.returns-clause-after_fault
+returns-clause-after_fault c = on_err c.finish.result (finish_shows (image_of c.args.self.now) c.finish.new.record.standing c.args.zone (call_stands c.args.self.now c.in-Some.record c.self.inside.calls (Finish c.args.zone) (old_is c) c.requires.is_known (c.requires.is_zone) (began_is c) c.finish.ensures.within c.finish.new.record c.finish.new.calls c.finish.ensures.content c.finish.ensures.counts))

@@ -1,0 +1,89 @@
+-- The state of a device in memory, and what it tells.
+use Rattle.std.specs.Prelude.{◌⊎◌, ℕ, List, [], Bool, false, Option, None, Some, is_none, if◌then◌else◌}
+use Rattle.zone_image.specs.declared.Geometry.{Geometry}
+use Rattle.zone_image.specs.declared.ZoneInfo.{ZoneInfo}
+use Rattle.zone_image.specs.Image.{Image, IsCrash}
+use Rattle.zone_image.specs.Infos.{infos_of, IsValidImage}
+use Rattle.zoned_device.specs.CallState.{CallState, fault_of, begun, faulted}
+use Rattle.zoned_device.specs.Content.{Change, Content, LeftBy, AllBefore, content_after, calls_after, is_done}
+
+-- the image with its record, none until one is made, and the counts of the calls
+pub record MemState : Type 0 where
+  pub content : Option Content
+  pub calls : CallState
+
+-- what stands for the image where none is there
+abbrev pub no_image : Image
+no_image = record {
+  geometry = record { block = 0; zone_blocks = 0; capacity = 0; zones = 0; active_limit = 0 };
+  zones = [];
+}
+
+abbrev pub standing_in : Option Content → Image
+standing_in None = no_image
+standing_in (Some c) = c.standing
+
+-- the image that stands
+abbrev pub image_of : MemState → Image
+image_of s = standing_in s.content
+
+abbrev pub geometry_of : MemState → Geometry
+geometry_of s = (image_of s).geometry
+
+abbrev pub infos_in : MemState → List ZoneInfo
+infos_in s = infos_of (image_of s)
+
+abbrev pub tick_of : MemState → ℕ
+tick_of s = s.calls.tick
+
+abbrev pub IsThere : Option Content → Type 0
+IsThere None = ⊥
+IsThere (Some c) = IsValidImage c.standing
+
+-- an image is there
+abbrev pub IsKnown : MemState → Type 0
+IsKnown s = IsThere s.content
+
+abbrev pub IsNone : Option Content → Type 0
+IsNone None = Unit {0}
+IsNone (Some c) = ⊥
+
+-- no image is there
+abbrev pub IsAbsent : MemState → Type 0
+IsAbsent s = IsNone s.content
+
+abbrev pub LeftOf : Option Content → ℕ → ℕ → Image → Type 0
+LeftOf None now t j = ⊥
+LeftOf (Some c) now t j = IsCrash c.standing j ⊎ LeftBy c.events t now j
+
+-- what a crash since this tick might have left: a crash of the image that stands, or of one that was passed
+abbrev pub since_of : MemState → ℕ → Image → Type 0
+since_of s t j = LeftOf s.content (tick_of s) t j
+
+abbrev pub BeganBefore : ℕ → Option Content → Type 0
+BeganBefore now None = Unit {0}
+BeganBefore now (Some c) = AllBefore now c.events
+
+abbrev pub content_changed : CallState → Change → Option Content → Option Content
+content_changed s ch None = None
+content_changed s ch (Some c) = Some (content_after s ch c)
+
+abbrev pub calls_changed : CallState → Change → Option Content → CallState
+calls_changed s ch None = s
+calls_changed s ch (Some c) = calls_after s ch c
+
+-- after a changing call
+abbrev pub changed : MemState → Change → MemState
+changed s ch = record { content = content_changed s.calls ch s.content; calls = calls_changed s.calls ch s.content }
+
+abbrev pub done_in : CallState → Change → Option Content → Bool
+done_in s ch None = false
+done_in s ch (Some c) = is_done s ch c
+
+-- a changing call succeeds: it isn't to fail, and there is room to keep it
+abbrev pub succeeds : MemState → Change → Bool
+succeeds s ch = done_in s.calls ch s.content
+
+-- after a call that changes no image
+abbrev pub called : MemState → MemState
+called s = record s { calls = if is_none (fault_of s.calls) then begun s.calls else faulted (begun s.calls) }

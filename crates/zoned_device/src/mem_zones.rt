@@ -1,0 +1,211 @@
+// A device in memory that tells everything and fails as it is told.
+ghost use Rattle.std.specs.Prelude.{◌≡◌, Some, None, IsTrue, IsSome, IfOk};
+ghost use Rattle.zone_image.specs.Image.{is_valid, IsCrash};
+ghost use Rattle.zone_image.specs.Changes.{blank};
+ghost use Rattle.zone_image.specs.Counts.{next_tick, HasCause};
+ghost use Rattle.zone_image.specs.Moments.{LeavesOnly};
+ghost use Rattle.zoned_device.specs.CallState.{no_calls, fault_of};
+ghost use Rattle.zoned_device.specs.Content.{begun_with};
+
+use crate::failing::{Calls, Failing};
+use crate::image_record::Record;
+use crate::{DevFault, MakeError, ProbeError, ZonedDevice, calls};
+use std::alloc::{AllocError, Global};
+use std::marker::Model;
+use zone_image::{Geometry, ZoneInfo};
+
+/// A device in memory. It tells its image and every image that it passed, which it keeps in room that it takes when
+/// the image is made: for 65,536 changing calls and four times the bytes of the device. A call fails where the list
+/// says so, a changing call where no room is left, and every call at the last tick.
+#[derive(Drop)]
+pub struct MemZones {
+    alloc: Global,
+    record: Option<Record>,
+    calls: Calls,
+}
+
+impl Model for MemZones {
+    ghost use Rattle.zoned_device.specs.MemState.{MemState, BeganBefore};
+
+    ghost Value = { MemState };
+
+    ghost view = { λ m. record { content = m.«record»; calls = m.calls } };
+
+    ghost invariant = { λ m. BeganBefore m.calls.tick m.«record» };
+}
+
+impl MemZones {
+    /// A device on which all zones are empty.
+    pub fn new(alloc: Global, geometry: Geometry, fails: Vec<Failing>) -> Result<Self, AllocError>
+        requires { IsTrue (is_valid geometry) }
+        ensures { IfOk result (λ m. m ≡ record { content = Some (begun_with (blank geometry)); calls = no_calls fails.items }) }
+    {
+        Ok(MemZones {
+            alloc,
+            record: Some(Record::new(alloc, &geometry)?),
+            calls: Calls::new(fails),
+        })
+    }
+
+    /// A device on which no image is until one is made.
+    pub fn blank(alloc: Global, fails: Vec<Failing>) -> Self
+        ensures { result ≡ record { content = None; calls = no_calls fails.items } }
+    {
+        MemZones {
+            alloc,
+            record: None,
+            calls: Calls::new(fails),
+        }
+    }
+}
+
+impl MemZones {
+    ghost use Rattle.zoned_device.specs.MemState.{image_of, tick_of, since_of, called};
+
+    // Begins a call that changes no image, and counts it as a fault if it is to fail. It answers how much of the
+    // call is done before it fails.
+    fn begin(&mut self) -> Option<u32>
+        ensures fault { result ≡ fault_of self.old.calls }
+        ensures counted { self.new ≡ called self.old }
+        ensures passes { LeavesOnly tick_of since_of self.old self.new (IsCrash (image_of self.old)) }
+        ensures cause { HasCause self.old.calls.faults self.new.calls.faults (IsSome result) }
+        ensures ticks { self.new.calls.tick ≡ next_tick self.old.calls.tick }
+    {
+        let fault = self.calls.begin();
+        if fault.is_some() {
+            self.calls.count_fault();
+        }
+        fault
+    }
+
+    // Puts a new image in place of what is there, if there is memory for it.
+    fn replace(&mut self, shape: &Geometry)
+        requires { IsTrue (is_valid shape.now) }
+        ensures { self.new.calls ≡ self.old.calls }
+    {
+        if let Ok(record) = Record::new(self.alloc, shape) {
+            self.record = Some(record);
+        }
+    }
+}
+
+impl ZonedDevice for MemZones {
+    ghost use Rattle.zoned_device.specs.MemState.{image_of, geometry_of, infos_in, tick_of, since_of, IsKnown, IsAbsent};
+    ghost use Rattle.zoned_device.specs.MemLaws.{mem_moments, mem_possible, mem_told, mem_there, mem_since_all};
+
+    ghost known = { IsKnown };
+
+    ghost geometry = { geometry_of };
+
+    ghost infos = { infos_in };
+
+    ghost tells = { Unit {0} };
+
+    ghost absent = { IsAbsent };
+
+    ghost image = { image_of };
+
+    ghost tells_now = { Unit {0} };
+
+    ghost tells_moments = { Unit {0} };
+
+    ghost since = { since_of };
+
+    ghost tick = { tick_of };
+
+    ghost faults = { λ m. m.calls.faults };
+
+    ghost failed_changes = { λ m. m.calls.failed_changes };
+
+    fn probe(&mut self) -> Result<Geometry, ProbeError> {
+        if self.begin().is_some() {
+            return Err(ProbeError::Failed);
+        }
+        match &self.record {
+            Some(record) => Ok(record.standing().geometry()),
+            None => Err(ProbeError::NotAnImage),
+        }
+    }
+
+    fn make(&mut self, shape: &Geometry) -> Result<(), MakeError> {
+        if let Some(part) = self.begin() {
+            if part != 0 {
+                self.replace(shape);
+            }
+            return Err(MakeError::Failed);
+        }
+        self.record = Some(Record::new(self.alloc, shape)?);
+        Ok(())
+    }
+
+    fn report(&mut self, zone: u32) -> Result<ZoneInfo, DevFault> {
+        if self.begin().is_some() {
+            return Err(DevFault);
+        }
+        match &self.record {
+            Some(record) => Ok(record.standing().info(zone)),
+            None => unreachable!(),
+        }
+    }
+
+    fn read(&mut self, zone: u32, block: u32, out: &mut [u8]) -> Result<(), DevFault> {
+        if self.begin().is_some() {
+            return Err(DevFault);
+        }
+        match &self.record {
+            Some(record) => record.standing().read(zone, block, out),
+            None => unreachable!(),
+        }
+        Ok(())
+    }
+
+    fn append(&mut self, zone: u32, bytes: &[u8]) -> Result<u32, DevFault> {
+        match &mut self.record {
+            Some(record) => calls::append(record, &mut self.calls, zone, bytes),
+            None => unreachable!(),
+        }
+    }
+
+    fn finish(&mut self, zone: u32) -> Result<(), DevFault> {
+        match &mut self.record {
+            Some(record) => calls::finish(record, &mut self.calls, zone),
+            None => unreachable!(),
+        }
+    }
+
+    fn reset(&mut self, zone: u32) -> Result<(), DevFault> {
+        match &mut self.record {
+            Some(record) => calls::reset(record, &mut self.calls, zone),
+            None => unreachable!(),
+        }
+    }
+
+    fn sync(&mut self) -> Result<(), DevFault> {
+        match &mut self.record {
+            Some(record) => calls::sync(record, &mut self.calls),
+            None => unreachable!(),
+        }
+    }
+
+    fn tick(&self) -> u64 {
+        self.calls.tick()
+    }
+
+    fn faults(&self) -> u64 {
+        self.calls.faults()
+    }
+
+    fn failed_changes(&self) -> u64 {
+        self.calls.failed_changes()
+    }
+
+    ghost possible = { mem_possible };
+
+    ghost told = { λ m _ known. mem_told m known };
+
+    ghost there = { λ m _ known absent. mem_there m known absent };
+
+    ghost moments = { mem_moments };
+
+    ghost since_all = { λ m j _ known crash. mem_since_all m j known crash };
+}
