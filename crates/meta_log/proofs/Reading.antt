@@ -1,6 +1,6 @@
 -- What the first blocks of a list say of its first record.
-use Rattle.std.proofs.Common.{◌≡◌, ℕ, zero, suc, ◌+◌, ◌-◌, ◌*◌, ◌<◌, ◌≤◌, Bool, true, false, List, [], ◌∷◌, ◌++◌, length, take, drop, map, refl, sym, ap, subst, ◌∙◌, arith, append-nil, add-one, length-drop}
-use Rattle.std.specs.Prelude.{IsTrue, cond, nat_lt}
+use Rattle.std.proofs.Common.{◌≡◌, ℕ, zero, suc, ◌+◌, ◌-◌, ◌*◌, ◌<◌, ◌≤◌, List, [], ◌∷◌, ◌++◌, length, take, drop, sym, ap, ◌∙◌, arith, append-nil, add-one, length-drop}
+use Rattle.std.specs.Prelude.{IsTrue, cond}
 use Rattle.std.specs.List.{concat}
 use Rattle.std.proofs.lemmas.List.Folds.{concat-append}
 use Rattle.std.proofs.Math.Seq.{take-add}
@@ -10,11 +10,10 @@ use Rattle.std.proofs.lemmas.Grind.{common_steps, div_ceil_times}
 use Rattle.zone_image.specs.declared.Geometry.{Geometry}
 use Rattle.zone_image.specs.declared.ZoneInfo.{ZoneInfo}
 use Rattle.zone_image.specs.Image.{Image, is_valid, zone_at}
-use Rattle.zone_image.specs.Changes.{bytes_at}
-use Rattle.zone_image.specs.Infos.{info_at, infos_of, info_of, IsPossible, IsImage}
+use Rattle.zone_image.specs.Infos.{info_at, info_of, IsPossible, IsImage}
 use Rattle.zone_image.proofs.InfoLaws.{info_at_is}
 use Rattle.superblock_core.specs.Superblock.{u32_at}
-use Rattle.log_model.specs.LogScan.{Item, blocks_of, first_item, sized_item, whole_item}
+use Rattle.log_model.specs.LogScan.{blocks_of, first_item, sized_item, whole_item}
 use Rattle.log_model.specs.LogScan.Item.{NoMore, Unfinished}
 
 -- a zone's written number is the number of its blocks

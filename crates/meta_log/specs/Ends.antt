@@ -1,7 +1,6 @@
 -- The end that a reader keeps, as the scan of a log has it.
 use Rattle.log_model.specs.LogScan.{ScanEnd}
 use Rattle.log_model.specs.LogScan.ScanEnd.{Clean, Torn, Bad}
-use Rattle.std.specs.Prelude.{Option, Some, None}
 use Rattle.meta_log.specs.declared.item.LogEnd.{LogEnd}
 use Rattle.meta_log.specs.declared.item.LogEnd.TheVariants as log_end
 

@@ -17,6 +17,12 @@ pub record ReaderState : Type 0 where
   pub next : ℕ
   pub ended : Option ScanEnd
 
+-- a reader of the same zone, wherever it stands there
+pub record IsSameLog (old new : ReaderState) : Type 0 where
+  pub zone : new.zone ≡ old.zone
+  pub block_size : new.block_size ≡ old.block_size
+  pub written : new.written ≡ old.written
+
 -- the item that stands at a block
 abbrev pub item_at : ℕ → Item → LogItem
 item_at at NoMore = log_item.Clean

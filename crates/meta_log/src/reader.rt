@@ -6,7 +6,7 @@ ghost use Rattle.zone_image.specs.Infos.{info_at};
 ghost use Rattle.zone_image.specs.Reads.{OnlyReads};
 ghost use Rattle.log_model.specs.LogScan.{blocks_of, first_item, whole_item};
 ghost use Rattle.meta_log.specs.Ends.{scan_end};
-ghost use Rattle.meta_log.specs.Reader.{IsCounted, IsRecordOf, end_item, found_item, item_at, next_item, reader_after};
+ghost use Rattle.meta_log.specs.Reader.{IsCounted, IsRecordOf, IsSameLog, end_item, found_item, item_at, next_item, reader_after};
 
 use crate::error::LogError;
 use crate::item::{Found, LogEnd, LogItem};
@@ -65,6 +65,7 @@ impl LogReader {
         ensures item { IfOk result (λ item. D.tells → item ≡ next_item self.old (zone_at (D.image dev.old) self.old.zone).blocks) }
         ensures after { IfOk result (λ item. self.new ≡ reader_after self.old item) }
         ensures err { OnErr result (self.new ≡ self.old) }
+        ensures same { IsSameLog self.old self.new }
         ensures device { OnlyReads D.known D.geometry D.infos D.tells D.image D.tick D.since D.failed_changes dev.old dev.new }
         ensures cause { HasCause (D.faults dev.old) (D.faults dev.new) (IsErrOf result LogError.DevFault) }
     {

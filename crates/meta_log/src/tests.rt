@@ -1,5 +1,6 @@
 use crate::{LogItem, LogReader, add, spell};
 use std::alloc::Global;
+use std::process::Abort;
 use std::test::Fail;
 use zone_image::Geometry;
 use zoned_device::{SureZones, ZonedDevice};
@@ -25,56 +26,49 @@ fn said(alloc: Global, item: &LogItem) -> Result<String, Fail> {
     })
 }
 
-#[test]
-fn records_are_read_as_they_were_added_and_a_part_of_one_is_torn(
-    rt: HostRuntime,
-) -> Result<(), Fail> {
-    let alloc = rt.alloc();
+// What a reader finds first in a zone of one block or two.
+fn first_found(rt: &impl Abort, alloc: Global, blocks: &[u8]) -> Result<String, Fail> {
     let mut dev = SureZones::new(alloc, SHAPE)?;
-    let long = vec![in alloc; 7; 600]?;
-    assert_eq!(rt; add(alloc, &mut dev, &SHAPE, 1, b"\x04\0\0\0"), Ok(0));
-    let info = dev.report(1)?;
-    assert_eq!(rt; info.written, 1);
-    assert!(rt; !info.sealed);
-    assert_eq!(rt; add(alloc, &mut dev, &SHAPE, 1, &long), Ok(1));
-    let record = spell(alloc, &long, 512)?;
-    assert_eq!(rt; record.items().len(), 1024);
-    let info = dev.report(1)?;
-    assert_eq!(rt; info.written, 3);
-    assert!(rt; !info.sealed);
-    assert!(rt; dev.append(1, &record.items()[..512]).is_ok());
-    let info = dev.report(1)?;
-    assert_eq!(rt; info.written, 4);
-    assert!(rt; !info.sealed);
-    let mut reader = LogReader::new(1, &SHAPE, 4);
-    let first = reader.next(alloc, &mut dev)?;
-    let second = reader.next(alloc, &mut dev)?;
-    let third = reader.next(alloc, &mut dev)?;
-    let fourth = reader.next(alloc, &mut dev)?;
-    assert_eq!(rt; said(alloc, &first)?.as_str(), "payload 0 4");
-    assert_eq!(rt; said(alloc, &second)?.as_str(), "payload 1 600");
-    assert_eq!(rt; said(alloc, &third)?.as_str(), "torn 3");
-    assert_eq!(rt; said(alloc, &fourth)?.as_str(), "torn 3");
+    let count = blocks.len() / 512;
+    assert!(rt; blocks.len() % 512 == 0);
+    assert!(rt; count == 1 || count == 2);
+    assert!(rt; dev.append(2, blocks).is_ok());
+    let mut reader = LogReader::new(2, &SHAPE, count as u32);
+    let item = reader.next(alloc, &mut dev)?;
+    said(alloc, &item)
+}
+
+#[test]
+fn a_changed_record_is_bad_and_a_part_of_one_is_torn(rt: HostRuntime) -> Result<(), Fail> {
+    let alloc = rt.alloc();
+    let table = [
+        (4, 8, 0, 1, "payload 0 4"),
+        (4, 20, 1, 1, "payload 0 4"),
+        (4, 4, 0, 1, "bad 0 0"),
+        (4, 9, 1, 1, "bad 0 4"),
+        (4, 5, 2, 1, "torn 0"),
+        (600, 8, 0, 2, "payload 0 600"),
+        (600, 8, 0, 1, "torn 0"),
+        (600, 607, 1, 2, "bad 0 600"),
+    ];
+    for (len, at, byte, kept, wanted) in table {
+        let payload = vec![in alloc; 0; len]?;
+        assert!(rt; payload.len() > 0 && payload.len() < 1000);
+        let mut blocks = spell(alloc, &payload, 512)?.items().to_vec(alloc)?;
+        assert!(rt; at < blocks.len() && kept * 512 <= blocks.len());
+        blocks[at] = byte;
+        let found = first_found(&rt, alloc, &blocks[..kept * 512])?;
+        assert_eq!(rt; found.as_str(), wanted);
+    }
     Ok(())
 }
 
 #[test]
-fn a_record_without_a_length_or_with_another_checksum_is_bad(rt: HostRuntime) -> Result<(), Fail> {
+fn a_record_is_added_behind_what_stands(rt: HostRuntime) -> Result<(), Fail> {
     let alloc = rt.alloc();
-    for (at, byte, wanted) in [
-        (4, 0, "bad 0 0"),
-        (9, 1, "bad 0 4"),
-        (20, 1, "payload 0 4"),
-        (5, 2, "torn 0"),
-    ] {
-        let mut dev = SureZones::new(alloc, SHAPE)?;
-        let mut record = spell(alloc, b"\x04\0\0\0", 512)?.items().to_vec(alloc)?;
-        assert_eq!(rt; record.len(), 512);
-        record[at] = byte;
-        assert!(rt; dev.append(2, &record).is_ok());
-        let mut reader = LogReader::new(2, &SHAPE, 1);
-        let item = reader.next(alloc, &mut dev)?;
-        assert_eq!(rt; said(alloc, &item)?.as_str(), wanted);
-    }
+    let mut dev = SureZones::new(alloc, SHAPE)?;
+    assert_eq!(rt; add(alloc, &mut dev, &SHAPE, 1, b"\x04\0\0\0"), Ok(0));
+    let info = dev.report(1)?;
+    assert_eq!(rt; info.written, 1);
     Ok(())
 }

@@ -1,4 +1,4 @@
-use Rattle.std.proofs.Common.{◌≡◌, ◌<◌, ◌≤◌, ◌+◌, ◌-◌, ◌*◌, List, [], ◌++◌, length, take, drop, ap, sym, ◌∙◌, subst, arith, length-drop}
+use Rattle.std.proofs.Common.{◌≡◌, ◌<◌, ◌≤◌, ◌+◌, ◌-◌, ◌*◌, ◌++◌, length, take, drop, ap, sym, ◌∙◌, subst, arith, length-drop}
 use Rattle.std.specs.List.{concat}
 use Rattle.std.proofs.lemmas.Grind.{div_ceil_times}
 use Rattle.std.proofs.lemmas.Result.{IfOk-weaker}
@@ -7,7 +7,7 @@ use Rattle.zone_image.specs.Changes.{bytes_at}
 use Rattle.zone_image.specs.Infos.{info_at}
 use Rattle.zone_image.proofs.ReadLaws.{reads_on}
 use Rattle.superblock_core.specs.Superblock.{u32_at}
-use Rattle.log_model.specs.LogScan.{blocks_of, first_item, whole_item}
+use Rattle.log_model.specs.LogScan.{blocks_of, first_item}
 use Rattle.meta_log.specs.declared.item.LogItem.TheVariants as log_item
 use Rattle.meta_log.specs.Reader.{found_item, item_at}
 use Rattle.meta_log.proofs.Reading.{block_positive, blocks_positive, joined, none_left, one_and_rest, unfinished, whole, written_is}
