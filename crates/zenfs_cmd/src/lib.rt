@@ -1,6 +1,7 @@
 //! The utility `zenfs`: its words, and what each command does.
 #![tactic(auto)]
 
+mod repeats;
 mod words;
 
 pub use fs_report::{MemSink, OutSink, Sink, SinkFault, Status};
