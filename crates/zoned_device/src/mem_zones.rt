@@ -60,6 +60,22 @@ impl MemZones {
 }
 
 impl MemZones {
+    /// Other calls are to fail; their numbers start again at 1.
+    pub fn set_fails(&mut self, fails: Vec<Failing>)
+        ensures { self.new ≡ record self.old { calls = record self.old.calls { fails = fails.items; number = 0 } } }
+    {
+        self.calls.set_fails(fails);
+    }
+
+    // From now on so many calls pass, or all.
+    pub(crate) fn set_passes(&mut self, passes: Option<u64>)
+        ensures { self.new ≡ record self.old { calls = record self.old.calls { passes = passes } } }
+    {
+        self.calls.set_passes(passes);
+    }
+}
+
+impl MemZones {
     ghost use Rattle.zoned_device.specs.MemState.{image_of, tick_of, since_of, called};
 
     // Begins a call that changes no image, and counts it as a fault if it is to fail. It answers how much of the
