@@ -7,3 +7,4 @@ pub mod Numbers
 pub mod Slices
 pub mod FieldLaws
 pub mod RecordLaws
+pub mod Roundtrip
