@@ -8,3 +8,5 @@ pub mod Slices
 pub mod FieldLaws
 pub mod RecordLaws
 pub mod Roundtrip
+pub mod Valid
+pub mod Lengths

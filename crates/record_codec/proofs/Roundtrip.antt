@@ -1,17 +1,15 @@
 -- What was written from a record in the grammar spells it.
-use Rattle.std.proofs.Common.{◌≡◌, ◌≢◌, ℕ, zero, suc, ◌+◌, ◌-◌, ◌^◌, ◌<◌, ◌≤◌, Bool, true, false, not, ◌||◌, cond, eqb, List, [], ◌∷◌, ◌++◌, map, length, Option, Some, None, refl, sym, ap, subst, ◌∙◌, append_assoc, arith, length-append}
-use Rattle.std.specs.Prelude.{IsTrue, IfOk, Result, Ok, Err}
-use Rattle.std.specs.declared.alloc.AllocError.{AllocError}
-use Rattle.record_codec.proofs.RecordLaws.{record_again}
+use Rattle.std.proofs.Common.{◌≡◌, ◌≢◌, ℕ, ◌^◌, ◌<◌, Bool, true, false, cond, eqb, List, [], ◌∷◌, ◌++◌, map, length, refl, sym, ap, subst, append_assoc, arith, length-append}
+use Rattle.std.specs.Prelude.{IsTrue}
 use Rattle.std.specs.List.{AllByRecursion, flat_map, filter_map, list_all}
 use Rattle.std.proofs.lemmas.Bool.{eqb-false}
 use Rattle.std.proofs.lemmas.List.{append-nil}
 use Rattle.record_model.specs.Name.{is_name}
-use Rattle.record_model.specs.Numbers.{u32, u64, varint}
+use Rattle.record_model.specs.Numbers.{u32, varint}
 use Rattle.record_model.specs.Encoding.{tag_of, field_bytes, fields_of, entry_bytes, slice, payload_of}
 use Rattle.record_model.specs.FieldDecoding.{has_tag}
-use Rattle.record_model.specs.Decoding.{record_of, number_in, piece_of, name_of, entry_of, required_tags}
-use Rattle.record_model.specs.Grammar.{IsField, MayFollow, AreFields, IsEntry, AreEntries, IsExtent, AreApart, IsWritable, InGrammar, Spells}
+use Rattle.record_model.specs.Decoding.{number_in, piece_of, name_of, entry_of, required_tags}
+use Rattle.record_model.specs.Grammar.{AreFields, IsEntry, AreEntries, IsExtent, AreApart, IsWritable, InGrammar, Spells}
 use Rattle.record_model.specs.declared.types.Extent.{Extent}
 use Rattle.record_model.specs.declared.types.FileEntry.{FileEntry}
 use Rattle.record_model.specs.declared.types.Record.{Record}

@@ -10,6 +10,8 @@ const DELETION: &[u8] = &[3, 0, 0, 0];
 
 const END: &[u8] = &[4, 0, 0, 0];
 
+const REPLACEMENT: &[u8] = &[5, 0, 0, 0];
+
 // Fields of an entry: id 1, an id and a hint out of range, the mark of a sparse file, and names.
 const ID: &[u8] = &[1, 0, 0, 0, 1, 0, 0, 0, 0, 0, 0, 0];
 
@@ -28,6 +30,21 @@ const ONE: &[u8] = &[1, 0, 0, 0, 0, 0, 0, 0];
 const NONE: &[u8] = &[255, 255, 255, 255, 255, 255, 255, 255];
 
 const ZERO: &[u8] = &[0, 0, 0, 0, 0, 0, 0, 0];
+
+// A whole entry but for its extents, its mark and its name, and these.
+const FRONT: &[u8] = &[
+    1, 0, 0, 0, 1, 0, 0, 0, 0, 0, 0, 0, 3, 0, 0, 0, 8, 0, 0, 0, 0, 0, 0, 0, 4, 0, 0, 0, 5, 0, 0, 0,
+];
+
+const EXTENT: &[u8] = &[
+    5, 0, 0, 0, 16, 0, 2, 0, 0, 0, 0, 0, 0, 8, 0, 0, 0, 0, 0, 0, 0,
+];
+
+const BACK: &[u8] = &[
+    6, 0, 0, 0, 7, 0, 0, 0, 0, 0, 0, 0, 7, 0, 0, 0, 0, 16, 0, 0, 0, 0, 0, 0,
+];
+
+const A_TXT: &[u8] = &[9, 0, 0, 0, 5, b'a', b'.', b't', b'x', b't'];
 
 // The update that creates a.txt with id 1, hint 0 and time 1700000000, a field a line.
 const CREATE_A_TXT: [u8; 71] = [
@@ -145,61 +162,71 @@ fn a_txt(alloc: Global) -> Result<Name, Fail> {
     Ok(Name::read(alloc, "a.txt").ok().ok_or("a.txt is a name")?)
 }
 
+// The payload that the encoder writes, where it has as many bytes as `encoded_len` says.
+fn written(alloc: Global, value: &Record) -> Result<Payload, Fail> {
+    let len = encoded_len(value);
+    if len > u64::from(u32::MAX) {
+        return Err("a payload has fewer than 2^32 bytes")?;
+    }
+    let payload = encode(alloc, value)?;
+    if payload.items().len() as u64 != len {
+        return Err("the payload has another length")?;
+    }
+    Ok(payload)
+}
+
 #[test]
 fn records_are_written_as_the_vectors_say(rt: HostRuntime) -> Result<(), Fail> {
-    let create = create_a_txt(rt.alloc())?;
-    assert_eq!(rt; encoded_len(&create), 71);
-    assert_eq!(rt;
-        encode(rt.alloc(), &create)?.items(),
-        CREATE_A_TXT.as_slice()
-    );
+    let alloc = rt.alloc();
+    let create = create_a_txt(alloc)?;
+    assert_eq!(rt; written(alloc, &create)?.items(), CREATE_A_TXT.as_slice());
     let delete = Record::Deletion {
         id: 1,
-        name: a_txt(rt.alloc())?,
+        name: a_txt(alloc)?,
     };
+    assert_eq!(rt; written(alloc, &delete)?.items(), DELETE_A_TXT.as_slice());
+    let empty = Record::Snapshot(Files::from_vec(Vec::new(alloc)));
     assert_eq!(rt;
-        encode(rt.alloc(), &delete)?.items(),
-        DELETE_A_TXT.as_slice()
-    );
-    let empty = Record::Snapshot(Files::from_vec(Vec::new(rt.alloc())));
-    assert_eq!(rt;
-        encode(rt.alloc(), &empty)?.items(),
+        written(alloc, &empty)?.items(),
         [1u8, 0, 0, 0, 0].as_slice()
     );
-    assert_eq!(rt; encode(rt.alloc(), &Record::End)?.items(), END);
+    assert_eq!(rt; written(alloc, &Record::End)?.items(), END);
     Ok(())
 }
 
-// Each payload is read and written again as the same bytes.
+// The payload is read, and written again as the same bytes.
+fn is_written_again(alloc: Global, parts: &[&[u8]]) -> Result<bool, Fail> {
+    let payload = joined(alloc, parts)?;
+    match decode(alloc, &payload) {
+        Ok(value) => Ok(written(alloc, &value)?.items() == payload.as_slice()),
+        Err(_e) => Err("the payload is a record")?,
+    }
+}
+
 #[test]
 fn payloads_are_written_again_as_they_were(rt: HostRuntime) -> Result<(), Fail> {
-    let entry = &CREATE_A_TXT[5..];
-    let sparse = joined(rt.alloc(), &[&entry[..56], SPARSE, &entry[56..]])?;
-    let extent = joined(rt.alloc(), &[&[5, 0, 0, 0, 16], ONE, ONE])?;
-    let with_extents = joined(rt.alloc(), &[&entry[..32], &extent, &extent, &entry[32..]])?;
-    let payloads = [
-        joined(rt.alloc(), &[&CREATE_A_TXT])?,
-        joined(rt.alloc(), &[&DELETE_A_TXT])?,
-        joined(rt.alloc(), &[END])?,
-        joined(rt.alloc(), &[&[5, 0, 0, 0, 70], &sparse])?,
-        joined(
-            rt.alloc(),
-            &[
-                SNAPSHOT,
-                &[0xb0, 0x01, 66],
-                entry,
-                &[108],
-                &with_extents,
-                &[],
-            ],
-        )?,
+    let cases: [&[&[u8]]; 5] = [
+        &[END],
+        &[DELETION, &[10], ONE, &[1, b'a']],
+        &[UPDATE, &[66], FRONT, BACK, A_TXT],
+        &[REPLACEMENT, &[70], FRONT, BACK, SPARSE, A_TXT],
+        &[
+            SNAPSHOT,
+            &[0xb0, 0x01],
+            &[66],
+            FRONT,
+            BACK,
+            A_TXT,
+            &[108],
+            FRONT,
+            EXTENT,
+            EXTENT,
+            BACK,
+            A_TXT,
+        ],
     ];
-    for payload in &payloads {
-        let record = decode(rt.alloc(), payload)
-            .ok()
-            .ok_or("the payload is a record")?;
-        assert_eq!(rt; encode(rt.alloc(), &record)?.items(), payload.as_slice());
-        assert_eq!(rt; encoded_len(&record), payload.len() as u64);
+    for parts in cases {
+        assert!(rt; is_written_again(rt.alloc(), parts)?);
     }
     Ok(())
 }
