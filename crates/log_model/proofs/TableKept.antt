@@ -90,9 +90,11 @@ origin_head : (kept here : Bool) (ns : List (List ℕ)) (id : ℕ) (f e : FileEn
     → (file_of id (take_names ns fs) ≡ Some e → IsTakenFrom ns id e fs) → file_of id (cond kept (without_names ns f ∷ take_names ns fs) (take_names ns fs)) ≡ Some e
     → IsTakenFrom ns id e (f ∷ fs)
 unfolding IsTakenFrom
-origin_head true true ns id f e fs test rise behind is =
-    (f, ap (λ b. cond b (Some f) (file_of id fs)) test,
-      some_is (sym (ap (λ b. cond b (Some (without_names ns f)) (file_of id (take_names ns fs))) test) ∙ is))
+origin_head true true ns id f e fs test rise behind is = (
+  f,
+  ap (λ b. cond b (Some f) (file_of id fs)) test,
+  some_is (sym (ap (λ b. cond b (Some (without_names ns f)) (file_of id (take_names ns fs))) test) ∙ is),
+)
 origin_head true false ns id f e fs test rise behind is =
     let rest = behind (sym (ap (λ b. cond b (Some (without_names ns f)) (file_of id (take_names ns fs))) test) ∙ is) in
     (rest.0, ap (λ b. cond b (Some f) (file_of id fs)) test ∙ rest.1, rest.2)
@@ -115,13 +117,13 @@ taken_table ns es table = record {
   ids = rise_taken 0 ns es table.ids;
   named = named_taken ns es;
   apart =
-    λ e is.
+      λ e is.
       let from : IsTakenFrom ns e.id e es = taken_origin 0 ns e.id e es table.ids is in
       let same : from.0.id ≡ e.id = ap (λ x. x.id) from.2 in
       let found : file_of from.0.id es ≡ Some from.0 = ap (λ id. file_of id es) same ∙ from.1 in
       all_taken (λ f. f.id ≢ from.0.id → shares_name from.0 f ≡ false) (λ f. f.id ≢ e.id → shares_name e f ≡ false) ns es
-        (λ f apart other. sym (ap (λ x. shares_name x (without_names ns f)) from.2) ∙ shares_less ns from.0 f (apart (λ is_same. other (is_same ∙ same))))
-        (table.apart from.0 found);
+      (λ f apart other. sym (ap (λ x. shares_name x (without_names ns f)) from.2) ∙ shares_less ns from.0 f (apart (λ is_same. other (is_same ∙ same))))
+      (table.apart from.0 found);
 }
 
 -- what holds of each entry of other ids
@@ -162,7 +164,7 @@ others_table id es table = record {
   ids = rise_others 0 id es table.ids;
   named = all_others (λ e. is_named e ≡ true) id es table.named;
   apart =
-    λ e is.
+      λ e is.
       all_others (λ f. f.id ≢ e.id → shares_name e f ≡ false) id es
       (table.apart e (others_origin 0 id e.id e es table.ids (file_has (λ f. f.id ≢ id) e.id (others_of id es) e (others_other id es) is) is));
 }
@@ -235,15 +237,15 @@ placed_table e es named table other apart = record {
   ids = rise_placed 0 e es table.ids other (omega arith);
   named = all_placed (λ x. is_named x ≡ true) e es named table.named;
   apart =
-    λ it is.
+      λ it is.
       ⊎_elim
       (λ same.
-        subst (λ x. AllByRecursion (λ f. f.id ≢ x.id → shares_name x f ≡ false) (with_entry e es)) (sym same)
-        (all_placed (λ f. f.id ≢ e.id → shares_name e f ≡ false) e es (λ self. absurd (self refl))
-          (all_from (λ f. shares_name e f ≡ false) (λ f. f.id ≢ e.id → shares_name e f ≡ false) es (λ f h away. h) apart)))
+      subst (λ x. AllByRecursion (λ f. f.id ≢ x.id → shares_name x f ≡ false) (with_entry e es)) (sym same)
+      (all_placed (λ f. f.id ≢ e.id → shares_name e f ≡ false) e es (λ self. absurd (self refl))
+      (all_from (λ f. shares_name e f ≡ false) (λ f. f.id ≢ e.id → shares_name e f ≡ false) es (λ f h away. h) apart)))
       (λ found.
-        all_placed (λ f. f.id ≢ it.id → shares_name it f ≡ false) e es
-        (λ away. among_sym e.names it.names (file_has (λ f. shares_name e f ≡ false) it.id es it apart found)) (table.apart it found))
+      all_placed (λ f. f.id ≢ it.id → shares_name it f ≡ false) e es
+      (λ away. among_sym e.names it.names (file_has (λ f. shares_name e f ≡ false) it.id es it apart found)) (table.apart it found))
       (placed_origin it.id e it es other is);
 }
 
