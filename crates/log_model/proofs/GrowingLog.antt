@@ -165,7 +165,7 @@ newest_replaced (b ∷ before) after log it same is =
     (newer_cases b (newest (before ++ log ∷ after)) log is)
 
 -- a selected log has its snapshot
-selected_has_snapshot : (logs : List LogAt) (log : LogAt) → current_log logs ≡ Ok log → has_snapshot log ≡ Ok true
+pub selected_has_snapshot : (logs : List LogAt) (log : LogAt) → current_log logs ≡ Ok log → has_snapshot log ≡ Ok true
 selected_has_snapshot logs log is =
     let newest_is : newest (filter counts logs) ≡ Some log = undamaged_is (newest (filter counts logs)) log is in
     let counted : counts log ≡ true = newest_has (λ l. counts l ≡ true) (filter counts logs) log (each_counts logs) newest_is in

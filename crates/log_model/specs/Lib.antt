@@ -5,6 +5,7 @@ pub mod SelectionLaws
 pub mod LogChangeLaws
 pub mod AppendLaws
 pub mod NewLogLaws
+pub mod MountedLogLaws
 pub mod FileTable
 pub mod Frames
 pub mod Mounted

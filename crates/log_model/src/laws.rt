@@ -3,6 +3,7 @@
 pub mod appends;
 pub mod headroom;
 pub mod log_changes;
+pub mod mounted_logs;
 pub mod mounts;
 pub mod new_logs;
 pub mod scans;
