@@ -14,7 +14,6 @@ use Rattle.log_model.proofs.TableLaws.{others_of, id_above, rise_cond, rise_take
 use Rattle.log_model.proofs.ReplayLaws.{bytes_eq_sym, file_has, all_from, all_of}
 use Rattle.log_model.proofs.SelectionLaws.{some_is}
 use Rattle.log_model.proofs.SelectedLog.{went_on, ok_is}
-use Rattle.log_model.proofs.SnapshotLaws.{sorted_same}
 
 -- one name, or none, in front of others
 kept_either : (b : Bool) (q : List ℕ → Bool) (n : List ℕ) (kept : List (List ℕ)) → q n ≡ false → list_any q kept ≡ false → list_any q (cond b (n ∷ kept) kept) ≡ false
@@ -273,14 +272,44 @@ grown_named : (o : Option FileEntry) (e : FileEntry) → is_named e ≡ true →
 grown_named None e h = h
 grown_named (Some f) e h = h
 
--- a snapshot of a table that breaks no rule is the table, in order
-snapshot_table : (files before next : Table) → IsTable files → after_record (Snapshot files) before ≡ Ok next → IsTable next
+-- what holds of each entry holds of each in order
+all_sorted : (P : FileEntry → Type 0) (es : Table) → AllByRecursion P es → AllByRecursion P (sorted es)
+all_sorted P [] h = tt
+all_sorted P (e ∷ es) h = all_placed P e (sorted es) h.0 (all_sorted P es h.1)
+
+-- what none passes fails of each
+all_fail : (q : FileEntry → Bool) (es : Table) → list_any q es ≡ false → AllByRecursion (λ f. q f ≡ false) es
+all_fail q [] h = tt
+all_fail q (e ∷ es) h = let parts = or_parts (q e) (list_any q es) h in (parts.0, all_fail q es parts.1)
+
+-- a table of no entries
+pub empty_table : IsTable []
+empty_table = record { ids = tt; named = tt; apart = λ e is. tt }
+
+-- entries with names, of which no two have one id or share a name, make a table
+sorted_table : (es : Table) → AllByRecursion (λ e. is_named e ≡ true) es → repeats_id es ≡ false → repeats_name es ≡ false → IsTable (sorted es)
+sorted_table [] named ids names = empty_table
+sorted_table (e ∷ es) named ids names =
+    let a = or_parts (list_any (λ f. f.id == e.id) es) (repeats_id es) ids in
+    let b = or_parts (list_any (shares_name e) es) (repeats_name es) names in
+    placed_table e (sorted es) named.0 (sorted_table es named.1 a.1 b.1)
+    (all_sorted (λ f. f.id ≢ e.id) es (all_from (λ f. (f.id == e.id) ≡ false) (λ f. f.id ≢ e.id) es (λ f other. eqb-false f.id e.id other) (all_fail (λ f. f.id == e.id) es a.0)))
+    (all_sorted (λ f. shares_name e f ≡ false) es (all_fail (shares_name e) es b.0))
+
+-- a rule that gives a table on isn't broken
+unbroken_test : (broken : Bool) (rule : ℕ) (es next : Table) → unless_broken broken rule es ≡ Ok next → broken ≡ false
+unbroken_test true rule es next h = cc
+unbroken_test false rule es next h = refl
+
+-- a snapshot that breaks no rule makes a table
+snapshot_table : (files before next : Table) → AllByRecursion (λ e. is_named e ≡ true) files → after_record (Snapshot files) before ≡ Ok next → IsTable next
 unfolding after_record
-snapshot_table files before next table h =
+snapshot_table files before next named h =
     let a = went_on (unless_broken (not (list_all has_right_size files)) 5 files) (λ x. unless_broken (repeats_id files) 6 files >>= (λ y. unless_broken (repeats_name files) 7 files >>= (λ z. Ok (sorted files)))) next h in
     let b = went_on (unless_broken (repeats_id files) 6 files) (λ y. unless_broken (repeats_name files) 7 files >>= (λ z. Ok (sorted files))) next a.2 in
     let c = went_on (unless_broken (repeats_name files) 7 files) (λ z. Ok (sorted files)) next b.2 in
-    subst IsTable (sym (sorted_same 0 files table.ids) ∙ ok_is c.2) table
+    subst IsTable (ok_is c.2)
+    (sorted_table files named (unbroken_test (repeats_id files) 6 files b.0 b.1) (unbroken_test (repeats_name files) 7 files c.0 c.1))
 
 pub record_keeps_table : RecordKeepsTable
 unfolding after_record

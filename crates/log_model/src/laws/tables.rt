@@ -1,5 +1,5 @@
 //! Laws of replay: what a record makes of a table, and of the tree.
-ghost use Rattle.log_model.specs.ReplayLaws.{AddedRecordIsReplayed, SnapshotIsReplayed};
+ghost use Rattle.log_model.specs.ReplayLaws.{AddedRecordIsReplayed, SnapshotIsReplayed, ReplayMakesTable};
 ghost use Rattle.log_model.specs.TableLaws.{CreateIsReplayed, LinkIsReplayed, RenameIsReplayed, RenameOverIsReplayed, DeleteIsReplayed, GrowIsReplayed, ReplaceKeepsTree, RecordKeepsTable};
 
 /// The update of a new file, replayed, creates it in the tree.
@@ -50,4 +50,9 @@ pub fn snapshot_is_replayed()
 /// A record makes a table of a table: ids rise, each file has a name, and no two files share one.
 pub fn record_keeps_table()
     ensures { RecordKeepsTable }
+{}
+
+/// A log that replays makes a table, whoever wrote it: ids rise, each file has a name, and no two files share one.
+pub fn replay_makes_table()
+    ensures { ReplayMakesTable }
 {}
