@@ -1,5 +1,5 @@
 -- The tree that is shown after a change is the tree before with the change made.
-use Rattle.std.specs.Prelude.{◌≡◌, ⊤, ℕ, ◌+◌, Bool, true, false, not, ◌||◌, ◌==◌, List, [], ◌∷◌, ◌++◌, length, map, filter, Option, Some, None, Ok, option_map, refl, if◌then◌else◌}
+use Rattle.std.specs.Prelude.{◌≡◌, ℕ, ◌+◌, Bool, true, false, not, ◌||◌, ◌==◌, List, [], ◌∷◌, ◌++◌, length, map, filter, Option, Some, None, Ok, option_map, refl, if◌then◌else◌}
 use Rattle.std.specs.List.{AllByRecursion}
 use Rattle.std.specs.Str.{bytes_eq}
 use Rattle.std.proofs.Common.{sym, ◌∙◌, ap, subst}
@@ -11,7 +11,7 @@ use Rattle.log_model.specs.FileTree.{Tree, TreeFile, apply, id_of, on_file, link
 use Rattle.log_model.specs.FileTree as trees
 use Rattle.log_model.specs.FileTree.Change.{Create, Link, Rename, Unlink}
 use Rattle.fs_model.specs.FsState.{FsState, TableRow, row_named, on_row}
-use Rattle.fs_model.specs.TreeSteps.{new_entry, new_row, create, with_names, link_to, link, renamed_rows, rename_to, rename, drop_name, delete_row, delete}
+use Rattle.fs_model.specs.TreeSteps.{new_entry, new_row, create, with_names, link, renamed_rows, rename, drop_name, delete}
 use Rattle.fs_model.specs.ValidRows.{IsApart, AreApart}
 use Rattle.fs_model.specs.CrashClauses.{shown_file, shown_tree}
 use Rattle.fs_model.proofs.RowLaws.{create_made, link_made, rename_made, delete_made}
