@@ -1,26 +1,13 @@
 -- Worked cases of commands, computed.
 use Rattle.std.specs.Prelude.{◌≡◌, ℕ, zero, suc, ◌+◌, ◌*◌, ◌-◌, ◌^◌, true, false, List, [], ◌∷◌, ◌++◌, replicate, map, codes, Some, None, Ok, Err, Result, refl}
-use Rattle.record_model.specs.Numbers.{varint}
-use Rattle.record_model.specs.Encoding.{payload_of, entry_bytes}
-use Rattle.log_model.specs.Headroom.{log_need, change_need}
+use Rattle.command_model.specs.Opened.{laying_out, restoring, printing}
 use Rattle.fs_model.specs.declared.zones.Owner.TheVariants.{Idle}
 use Rattle.fs_model.specs.declared.error.FsError.{FsError}
 use Rattle.fs_model.specs.declared.error.FsError.TheVariants.{NotFound, SequenceEnd, IdsEnd, NoSpace}
-use Rattle.fs_model.specs.ZonePolicy.{choose_zone}
-use Rattle.std.specs.Str.{is_utf8, chars}
-use lib.Utf8
-use Rattle.std.specs.Fmt.{digits}
-use Rattle.record_model.specs.Name.{is_name}
 use Rattle.fs_model.specs.FsState.{FsState, ZoneDescriptor, TableRow, working, zone_states}
 use Rattle.fs_model.specs.Trace.{Trace}
-use Rattle.fs_model.specs.LogSteps.{NoValue, roll}
-use Rattle.fs_model.specs.TreeSteps.{create, delete, mount_write}
-use Rattle.fs_model.specs.FileSteps.{commit, recovery_point_fits, take_zone, note_extent, extent_fits, show, give_back, mark_open, mark_closed}
-use Rattle.fs_model.specs.WriterSteps as writers
+use Rattle.fs_model.specs.LogSteps.{NoValue}
 use Rattle.fs_model.specs.Turn.{LockState}
-use Rattle.fs_model.specs.VictimPolicy.{victim}
-use Rattle.fs_model.specs.Migration.{settle, round}
-use Rattle.fs_model.specs.FileSteps.{hold, replace, reset_victim}
 use Rattle.fs_model.specs.FsState.{descriptor_at}
 use Rattle.fs_model.specs.StepExamples.{superblock, g}
 use Rattle.command_model.specs.TreeCommands.{planned_layout, TreeCommand, RestoreFile, planned_changes}
@@ -38,12 +25,12 @@ hello = (record { name = codes "a.txt"; hint = 0; sparse = false; bytes = codes 
 
 -- its extent
 restored_hello : extents (planned_layout (TreeCommand.RestoreFiles hello) 7 (locked formatted)).last.fs ≡ ((record { start = 24576; len = 5 }) ∷ []) ∷ []
-unfolding planned_layout create mount_write roll commit recovery_point_fits take_zone note_extent extent_fits give_back mark_open mark_closed writers.sync writers.close choose_zone payload_of entry_bytes varint log_need change_need
+unfolding laying_out
 restored_hello = refl
 
 -- the blocks of the first zones: a log of five, and one block of data
 restored_zones : written (planned_layout (TreeCommand.RestoreFiles hello) 7 (locked formatted)).last.fs ≡ 0 ∷ 5 ∷ 0 ∷ 1 ∷ 0 ∷ []
-unfolding planned_layout create mount_write roll commit recovery_point_fits take_zone note_extent extent_fits give_back mark_open mark_closed writers.sync writers.close choose_zone payload_of entry_bytes varint log_need change_need
+unfolding laying_out
 restored_zones = refl
 
 -- the state after it, at a time of its own
@@ -52,12 +39,12 @@ hello_laid_out = (planned_layout (TreeCommand.RestoreFiles hello) 1700000000 (lo
 
 -- its list
 hello_listed : list_text (working hello_laid_out) None ≡ codes "           5" ++ 9 ∷ codes "1700000000" ++ 9 ∷ codes "a.txt" ++ 10 ∷ []
-unfolding planned_layout create mount_write roll commit recovery_point_fits take_zone note_extent extent_fits give_back mark_open mark_closed writers.sync writers.close choose_zone payload_of entry_bytes varint log_need change_need list_text digits
+unfolding printing laying_out
 hello_listed = refl
 
 -- its dump
 hello_dumped : dump_text (working hello_laid_out) (zone_states hello_laid_out) ≡ codes "{\"files\":[{\"extents\":[{\"len\":5,\"start\":24576}],\"hint\":0,\"id\":1,\"names\":[\"a.txt\"],\"size\":5,\"sparse\":false,\"time\":1700000000}],\"zones\":[{\"live\":0,\"sealed\":false,\"written\":5,\"zone\":1},{\"live\":1,\"sealed\":false,\"written\":1,\"zone\":3}]}" ++ 10 ∷ []
-unfolding planned_layout create mount_write roll commit recovery_point_fits take_zone note_extent extent_fits give_back mark_open mark_closed writers.sync writers.close choose_zone payload_of entry_bytes varint log_need change_need dump_text digits
+unfolding printing laying_out
 hello_dumped = refl
 
 -- a tree with two names of one file, saved and restored under a prefix
@@ -87,7 +74,7 @@ host_files =
 -- without a line a file has no hint and isn't sparse; a line without a file has no effect
 files_restored : restore_plan [] (Some (codes "db")) host_files
     ≡ Ok ((record { name = codes "db/a"; hint = 0; sparse = false; bytes = 7 ∷ [] }) ∷ (record { name = codes "db/b"; hint = 3; sparse = true; bytes = [] }) ∷ [])
-unfolding restore_plan files_to_restore hints_of is_name is_utf8 chars Utf8.encode
+unfolding restoring
 files_restored = refl
 
 -- a host file whose path makes no name, and a hints file with a wrong line
@@ -96,22 +83,22 @@ bad_files = (record { path = codes "a//b"; bytes = [] }) ∷ (record { path = hi
 
 -- the name is told first
 bad_name_first : restore_plan [] None bad_files ≡ Err (Cause.BadName (codes "a//b"))
-unfolding restore_plan files_to_restore hints_of is_name is_utf8 chars Utf8.encode
+unfolding restoring
 bad_name_first = refl
 
 -- and of names the prefix
 bad_prefix_first : restore_plan [] (Some (codes "..")) bad_files ≡ Err (Cause.BadName (codes ".."))
-unfolding restore_plan files_to_restore hints_of is_name is_utf8 chars Utf8.encode
+unfolding restoring
 bad_prefix_first = refl
 
 -- then the hints file
 bad_hints_before_existing : restore_plan example_tree None ((record { path = codes "x"; bytes = [] }) ∷ (record { path = hints_path; bytes = codes "9 b a" ++ 10 ∷ [] }) ∷ []) ≡ Err (Cause.BadHints 1)
-unfolding restore_plan files_to_restore hints_of is_name is_utf8 chars Utf8.encode
+unfolding restoring
 bad_hints_before_existing = refl
 
 -- then a file that is there
 existing_file : restore_plan example_tree None ((record { path = codes "x"; bytes = [] }) ∷ []) ≡ Err (Cause.NameExists (codes "x"))
-unfolding restore_plan files_to_restore hints_of is_name is_utf8 chars Utf8.encode
+unfolding restoring
 existing_file = refl
 
 -- the states passed
@@ -120,7 +107,7 @@ states_passed r = r.passed
 
 -- a name that isn't there is told before anything is written
 delete_absent : (planned_layout (TreeCommand.DeleteName (codes "x")) 7 (locked formatted)) ≡ record { passed = states_passed (planned_layout (TreeCommand.DeleteName (codes "x")) 7 (locked formatted)); last = locked formatted; answer = Err NotFound }
-unfolding planned_layout create mount_write roll delete payload_of entry_bytes varint log_need change_need
+unfolding laying_out
 delete_absent = refl
 
 -- ---- refusals of commands
@@ -143,12 +130,12 @@ at_end = record formatted { rows = empty_row 1 (codes "a") ∷ []; greatest = 1;
 
 -- a deletion that would have to roll
 delete_at_end : answer_of (TreeCommand.DeleteName (codes "a")) at_end ≡ Err SequenceEnd
-unfolding planned_layout create mount_write roll delete commit recovery_point_fits take_zone note_extent extent_fits show give_back mark_open mark_closed writers.sync writers.close choose_zone payload_of entry_bytes varint log_need change_need
+unfolding laying_out
 delete_at_end = refl
 
 -- a name that isn't there is told first
 delete_absent_at_end : answer_of (TreeCommand.DeleteName (codes "x")) at_end ≡ Err NotFound
-unfolding planned_layout create mount_write roll delete commit recovery_point_fits take_zone note_extent extent_fits show give_back mark_open mark_closed writers.sync writers.close choose_zone payload_of entry_bytes varint log_need change_need
+unfolding laying_out
 delete_absent_at_end = refl
 
 -- a file of these bytes to restore
@@ -161,7 +148,7 @@ last_id = record formatted { rows = empty_row (2 ^ 64 - 2) (codes "a") ∷ []; g
 
 -- no id is left for one more file
 restore_past_ids : answer_of (TreeCommand.RestoreFiles (one_file [])) last_id ≡ Err IdsEnd
-unfolding planned_layout create mount_write roll delete commit recovery_point_fits take_zone note_extent extent_fits show give_back mark_open mark_closed writers.sync writers.close choose_zone payload_of entry_bytes varint log_need change_need
+unfolding laying_out
 restore_past_ids = refl
 
 -- a file that fills a data zone
@@ -187,7 +174,7 @@ no_room = record formatted { zones = zone 7 ∷ zone 0 ∷ zone 0 ∷ replicate 
 
 -- a byte more finds no zone
 restore_without_space : answer_of (TreeCommand.RestoreFiles (one_file (7 ∷ []))) no_room ≡ Err NoSpace
-unfolding planned_layout create mount_write roll delete commit recovery_point_fits take_zone note_extent extent_fits show give_back mark_open mark_closed writers.sync writers.close choose_zone payload_of entry_bytes varint log_need change_need
+unfolding laying_out
 restore_without_space = refl
 
 -- the sizes shown of a state's files
@@ -196,7 +183,7 @@ sizes s = map (λ r. r.shown) s.rows
 
 -- the new name stands, with no bytes
 left_without_space : sizes (planned_layout (TreeCommand.RestoreFiles (one_file (7 ∷ []))) 7 (locked no_room)).last.fs ≡ replicate 29 8192 ++ 0 ∷ []
-unfolding planned_layout create mount_write roll delete commit recovery_point_fits take_zone note_extent extent_fits show give_back mark_open mark_closed writers.sync writers.close choose_zone payload_of entry_bytes varint log_need change_need
+unfolding laying_out
 left_without_space = refl
 
 -- the first block of a zone is a file
@@ -214,12 +201,12 @@ littered = record formatted {
 
 -- the first byte finds no space; the collection is settled, and the byte goes into a zone that it emptied
 settled_restore : answer_of (TreeCommand.RestoreFiles (one_file (7 ∷ []))) littered ≡ Ok tt
-unfolding planned_layout create mount_write roll delete commit recovery_point_fits take_zone note_extent extent_fits show give_back mark_open mark_closed writers.sync writers.close choose_zone payload_of entry_bytes varint log_need change_need settle round victim hold replace reset_victim
+unfolding laying_out
 settled_restore = refl
 
 -- the live blocks went into the empty zone
 settled_zones : map (λ n. (descriptor_at (planned_layout (TreeCommand.RestoreFiles (one_file (7 ∷ []))) 7 (locked littered)).last.fs n).info.written) (25 ∷ 26 ∷ 27 ∷ []) ≡ 1 ∷ 0 ∷ 2 ∷ []
-unfolding planned_layout create mount_write roll delete commit recovery_point_fits take_zone note_extent extent_fits show give_back mark_open mark_closed writers.sync writers.close choose_zone payload_of entry_bytes varint log_need change_need settle round victim hold replace reset_victim
+unfolding laying_out
 settled_zones = refl
 
 -- ---- backups that clash

@@ -1,10 +1,8 @@
 -- Command lines and scripts, computed.
 use Rattle.std.specs.Prelude.{◌≡◌, ℕ, ◌+◌, ◌*◌, ◌-◌, ◌^◌, true, false, List, [], ◌∷◌, ◌++◌, codes, map, Some, None, Ok, Err, refl}
-use Rattle.std.specs.Str.{is_utf8, chars}
-use lib.Utf8
+use Rattle.command_model.specs.Opened.{naming}
 use Rattle.std.specs.Fmt.{digits}
 use Rattle.zone_image.specs.Image.{is_valid}
-use Rattle.record_model.specs.Name.{is_name}
 use Rattle.fs_model.specs.declared.operations.Op.TheVariants as ops
 use Rattle.command_model.specs.Options.{number_in}
 use Rattle.command_model.specs.CommandLine.{command, image_path, bad_name_of}
@@ -80,12 +78,12 @@ flag_with_value = refl
 
 -- a flag, and a threshold that isn't set
 mkfs_read : command (codes "mkfs" ∷ codes "--enable_gc" ∷ codes "--image=i" ∷ codes "--aux_path=/aux" ∷ []) ≡ Some (MakeFs (codes "i") (codes "/aux") 0 true false)
-unfolding command is_utf8 chars Utf8.encode
+unfolding naming command
 mkfs_read = refl
 
 -- a threshold above a hundred
 threshold_above : command (codes "mkfs" ∷ codes "--image=i" ∷ codes "--aux_path=/aux" ∷ codes "--finish_threshold=101" ∷ []) ≡ None
-unfolding command is_utf8 chars Utf8.encode
+unfolding naming command
 threshold_above = refl
 
 -- five numbers of any size make a command; whether they are a geometry is asked later
@@ -105,7 +103,7 @@ image_told = refl
 
 -- the source of a rename is judged before its target
 bad_source_first : bad_name_of (RenameFile (codes "i") (codes "a/") (codes "/b")) ≡ Some (codes "a/")
-unfolding bad_name_of is_name is_utf8 chars Utf8.encode
+unfolding naming bad_name_of
 bad_source_first = refl
 
 -- a host directory is no name of the file system
@@ -149,7 +147,7 @@ script_read : script six_lines ≡ Ok (
     (record { job = 1; op = ops.Open (codes "a") 0 false }) ∷ (record { job = 1; op = ops.Append 5 104 })
     ∷ (record { job = 1; op = ops.Sync }) ∷ (record { job = 1; op = ops.Read (codes "a") })
     ∷ (record { job = 1; op = ops.Close }) ∷ (record { job = 1; op = ops.Delete (codes "b") }) ∷ [])
-unfolding script is_name is_utf8 chars Utf8.encode
+unfolding naming script
 script_read = refl
 
 -- an empty script is right
@@ -159,27 +157,27 @@ empty_script = refl
 
 -- wrong lines: two spaces, a job of 0, a count above its limit, no newline
 two_spaces : script (lines (codes "1 sync" ∷ codes "1  sync" ∷ [])) ≡ Err 2
-unfolding script is_name is_utf8 chars Utf8.encode
+unfolding naming script
 two_spaces = refl
 
 -- a job of no number
 job_zero : script (lines (codes "0 sync" ∷ [])) ≡ Err 1
-unfolding script is_name is_utf8 chars Utf8.encode
+unfolding naming script
 job_zero = refl
 
 -- too many bytes
 count_above : script (lines (codes "1 append 65537 0" ∷ [])) ≡ Err 1
-unfolding script is_name is_utf8 chars Utf8.encode
+unfolding naming script
 count_above = refl
 
 -- a last line without its newline
 no_newline : script (lines (codes "1 sync" ∷ []) ++ codes "1 close") ≡ Err 2
-unfolding script is_name is_utf8 chars Utf8.encode
+unfolding naming script
 no_newline = refl
 
 -- the first wrong line counts, also before a last line without its newline
 first_wrong : script (lines (codes "1 sync x" ∷ []) ++ codes "1 close") ≡ Err 1
-unfolding script is_name is_utf8 chars Utf8.encode
+unfolding naming script
 first_wrong = refl
 
 -- ---- made scripts

@@ -1,15 +1,8 @@
 -- The layout of a restored store, computed: files of short and of long lives.
 use Rattle.std.specs.Prelude.{◌≡◌, ℕ, zero, suc, ◌+◌, ◌%◌, true, false, List, [], ◌∷◌, ◌++◌, map, codes, refl}
+use Rattle.command_model.specs.Opened.{laying_out}
 use Rattle.zone_image.specs.declared.Geometry.{Geometry}
-use Rattle.record_model.specs.Numbers.{varint}
-use Rattle.record_model.specs.Encoding.{payload_of, entry_bytes}
-use Rattle.log_model.specs.Headroom.{log_need, change_need}
-use Rattle.fs_model.specs.ZonePolicy.{choose_zone}
 use Rattle.fs_model.specs.FsState.{FsState, descriptor_at}
-use Rattle.fs_model.specs.LogSteps.{roll}
-use Rattle.fs_model.specs.TreeSteps.{create, delete, mount_write}
-use Rattle.fs_model.specs.FileSteps.{commit, recovery_point_fits, take_zone, note_extent, extent_fits, show, give_back, mark_open, mark_closed}
-use Rattle.fs_model.specs.WriterSteps as writers
 use Rattle.command_model.specs.TreeCommands.{planned_layout, TreeCommand, RestoreFile}
 use Rattle.fs_model.specs.StepExamples.{g, formatted_on, locked}
 
@@ -40,5 +33,5 @@ laid_out = (planned_layout (TreeCommand.RestoreFiles store) 7 (locked (formatted
 
 -- the blocks of the data zones: lives of one length stand together
 store_zones : map (λ n. (descriptor_at laid_out n).info.written) (3 ∷ 4 ∷ 5 ∷ 6 ∷ 7 ∷ 8 ∷ 9 ∷ 10 ∷ 11 ∷ []) ≡ 8 ∷ 5 ∷ 5 ∷ 1 ∷ 1 ∷ 1 ∷ 1 ∷ 2 ∷ 0 ∷ []
-unfolding planned_layout create mount_write roll delete commit recovery_point_fits take_zone note_extent extent_fits show give_back mark_open mark_closed writers.sync writers.close choose_zone payload_of entry_bytes varint log_need change_need
+unfolding laying_out
 store_zones = refl

@@ -1,11 +1,7 @@
 -- Printed texts, computed.
 use Rattle.std.specs.Prelude.{◌≡◌, ℕ, ◌-◌, ◌^◌, true, false, List, [], ◌∷◌, ◌++◌, codes, flat_map, map, replicate, Some, None, Result, Ok, Err, refl}
-use Rattle.std.specs.Str.{is_utf8, chars}
-use lib.Utf8
-use Rattle.std.specs.Fmt.{digits}
-use Rattle.record_model.specs.Name.{is_name}
+use Rattle.command_model.specs.Opened.{naming, printing}
 use Rattle.record_model.specs.declared.fault.Why.TheVariants as fault
-use Rattle.superblock_core.specs.Superblock.{uuid_text}
 use Rattle.log_model.specs.declared.selection.DamageWhy.TheVariants as why
 use Rattle.log_model.specs.declared.selection.Refusal.TheVariants as refusals
 use Rattle.log_model.specs.Format.{new_superblock}
@@ -39,22 +35,22 @@ its_zones = zone 0 0 0 ∷ zone 5 0 0 ∷ zone 0 0 0 ∷ zone 1 1 5 ∷ replicat
 
 -- its list
 one_listed : list_text one_file None ≡ codes "           5" ++ 9 ∷ codes "1700000000" ++ 9 ∷ codes "a.txt" ++ 10 ∷ []
-unfolding digits list_text
+unfolding printing
 one_listed = refl
 
 -- a prefix that it doesn't have
 none_listed : list_text one_file (Some (codes "a.txt")) ≡ []
-unfolding digits list_text
+unfolding printing
 none_listed = refl
 
 -- its figures
 one_df : df_text g (space g its_zones) ≡ lines (codes "Free: 237056" ∷ codes "Used: 5" ∷ codes "Reclaimable: 0" ∷ codes "Space amplification: 0%" ∷ [])
-unfolding digits df_text space
+unfolding printing space
 one_df = refl
 
 -- its dump
 one_dumped : dump_text one_file its_zones ≡ codes "{\"files\":[{\"extents\":[{\"len\":5,\"start\":24576}],\"hint\":0,\"id\":1,\"names\":[\"a.txt\"],\"size\":5,\"sparse\":false,\"time\":1700000000}],\"zones\":[{\"live\":0,\"sealed\":false,\"written\":5,\"zone\":1},{\"live\":1,\"sealed\":false,\"written\":1,\"zone\":3}]}" ++ 10 ∷ []
-unfolding digits dump_text
+unfolding printing
 one_dumped = refl
 
 -- a name with a quote and a backslash
@@ -66,47 +62,47 @@ new_info : info_text (new_superblock g 0 (codes "/aux") 0 false) ≡ lines (
     codes "Magic: 5a454e46" ∷ codes "UUID: 00000000-0000-4000-8000-000000000000" ∷ codes "Sequence: 1" ∷ codes "Version: 2"
     ∷ codes "Flags: 0" ∷ codes "Block size: 512" ∷ codes "Zone size: 16" ∷ codes "Zone count: 32" ∷ codes "Finish threshold: 0"
     ∷ codes "Auxiliary path: /aux" ∷ codes "ZenFS version: profile-2" ∷ [])
-unfolding digits info_text uuid_text
+unfolding printing
 new_info = refl
 
 -- what the making commands print
 fs_made : made_fs_text g ≡ lines (codes "ZenFS file system created. Free space: 237568 bytes" ∷ [])
-unfolding digits
+unfolding printing
 fs_made = refl
 
 -- a device
 image_made : made_image_text g ≡ lines (codes "image created: 32 zones of 8192 bytes" ∷ [])
-unfolding digits
+unfolding printing
 image_made = refl
 
 -- refusals
 twin_text : refusal_text (codes "zenfs") (Cause.NoMount (refusals.Damaged (record { zone = 1; block = 0; why = why.Twin 4 }))) ≡ lines (codes "zenfs: damaged: zone 1 block 0: two logs of sequence 4" ∷ [])
-unfolding digits refusal_text
+unfolding printing
 twin_text = refl
 
 -- a record's fault
 fault_line : refusal_text (codes "zenfs") (Cause.NoMount (refusals.Damaged (record { zone = 0; block = 2; why = why.Decode (record { at = 0; why = fault.Tag 9 }) }))) ≡ lines (codes "zenfs: damaged: zone 0 block 2: record tag 9 at 0" ∷ [])
-unfolding digits refusal_text
+unfolding printing
 fault_line = refl
 
 -- a checksum, in eight digits each
 sum_text : refusal_text (codes "zenfs") (Cause.NoMount (refusals.Damaged (record { zone = 0; block = 2; why = why.Sum 0xC78AB0E5 7 }))) ≡ lines (codes "zenfs: damaged: zone 0 block 2: checksum stored c78ab0e5 computed 00000007" ∷ [])
-unfolding digits refusal_text
+unfolding printing
 sum_text = refl
 
 -- its status
 damaged_status : status_of (Cause.NoMount (refusals.Damaged (record { zone = 0; block = 2; why = why.NoLength }))) ≡ 5
-unfolding digits status_of
+unfolding printing status_of
 damaged_status = refl
 
 -- another version, another device
 version_text : refusal_text (codes "zenfs") (Cause.NoMount (refusals.Unsupported 0 3 0)) ≡ lines (codes "zenfs: zone 0: unsupported version 3 flags 0" ∷ [])
-unfolding digits refusal_text
+unfolding printing
 version_text = refl
 
 -- another number of zones
 differs_text : refusal_text (codes "zenfs") (Cause.NoMount (refusals.Differs 0 512 16 64)) ≡ lines (codes "zenfs: zone 0: superblock states block 512 zone 16 count 64" ∷ [])
-unfolding digits refusal_text
+unfolding printing
 differs_text = refl
 
 -- every other refusal of the utility
@@ -125,7 +121,7 @@ other_texts : flat_map (refusal_text (codes "zenfs")) other_causes ≡ lines (
     ∷ codes "zenfs: a//b: bad name" ∷ codes "zenfs: a: clashes in the backup" ∷ codes "zenfs: hints line 1"
     ∷ codes "zenfs: x: not found" ∷ codes "zenfs: c: exists"
     ∷ codes "zenfs: file ids at their end" ∷ codes "zenfs: sequence at its end" ∷ codes "zenfs: metadata full: 9 of 8 blocks" ∷ codes "zenfs: no space" ∷ [])
-unfolding digits refusal_text
+unfolding printing
 other_texts = refl
 
 -- their exit statuses
@@ -136,7 +132,7 @@ other_statuses = refl
 -- the refusals of the load program alone
 load_texts : flat_map (refusal_text (codes "zenload")) (Cause.ScriptFault ∷ Cause.ScriptTooLong ∷ Cause.BadScript 2 ∷ Cause.TooManyJobs 2 1 ∷ [])
     ≡ lines (codes "zenload: script fault" ∷ codes "zenload: script too long" ∷ codes "zenload: script line 2" ∷ codes "zenload: 2 jobs, at most 1" ∷ [])
-unfolding digits refusal_text
+unfolding printing
 load_texts = refl
 
 -- their exit statuses
@@ -152,7 +148,7 @@ damage_texts : map damage_text (
     ≡ codes "no length" ∷ codes "text at 4" ∷ codes "two logs of sequence 4" ∷ codes "rule 8"
     ∷ codes "record short at 4" ∷ codes "record field 3 twice at 62"
     ∷ codes "record field 9 missing at 5" ∷ codes "record range at 5" ∷ []
-unfolding digits
+unfolding printing
 damage_texts = refl
 
 -- the lines of a script that is right
@@ -166,13 +162,13 @@ five_bytes = (record { id = 1; names = codes "a" ∷ []; bytes = replicate 5 104
 
 -- one job of six lines, of which the last is refused
 one_summary : summary_text (right_lines (script six_lines)) one_job five_bytes ≡ lines (codes "job 1: 6 lines, 1 refused, 5 bytes read" ∷ codes "files 1, bytes 5" ∷ [])
-unfolding digits summary_text script is_name is_utf8 chars Utf8.encode
+unfolding printing naming summary_text script
 one_summary = refl
 
 -- a job without lines has a line of zeros
 job_without_lines : summary_text (right_lines (script (lines (codes "2 sync" ∷ [])))) [] [] ≡ lines (
     codes "job 1: 0 lines, 0 refused, 0 bytes read" ∷ codes "job 2: 1 lines, 0 refused, 0 bytes read" ∷ codes "files 0, bytes 0" ∷ [])
-unfolding digits summary_text script
+unfolding printing summary_text script
 job_without_lines = refl
 
 -- a refusal alone is no failure of a load; a device fault comes before want of memory, but that of the close before all
@@ -185,11 +181,11 @@ loads_status = refl
 -- two sealed zones of live bytes, and one byte: nothing is reclaimable
 two_files_df : df_text g (record { free = 431; used = 16385; reclaimable = 0; free_percent = 92 })
     ≡ lines (codes "Free: 220672" ∷ codes "Used: 16385" ∷ codes "Reclaimable: 0" ∷ codes "Space amplification: 0%" ∷ [])
-unfolding digits df_text
+unfolding printing
 two_files_df = refl
 
 -- what is reclaimable, in percent of what is used
 amplified_df : df_text g (record { free = 448; used = 100; reclaimable = 8092; free_percent = 96 })
     ≡ lines (codes "Free: 229376" ∷ codes "Used: 100" ∷ codes "Reclaimable: 8092" ∷ codes "Space amplification: 8092%" ∷ [])
-unfolding digits df_text
+unfolding printing
 amplified_df = refl

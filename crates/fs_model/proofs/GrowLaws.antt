@@ -1,15 +1,15 @@
 -- The tree that is shown after bytes of a file came to be shown.
-use Rattle.std.specs.Prelude.{◌≡◌, ℕ, ◌+◌, Bool, true, false, ◌==◌, List, [], ◌∷◌, ◌++◌, take, map, Option, Some, None, Ok, refl, if◌then◌else◌}
+use Rattle.std.specs.Prelude.{◌≡◌, ℕ, ◌+◌, Bool, true, false, ◌==◌, List, [], ◌∷◌, ◌++◌, take, map, Some, Ok, refl, if◌then◌else◌}
 use Rattle.std.specs.List.{AllByRecursion}
-use Rattle.std.proofs.Common.{sym, ◌∙◌, ap, subst}
+use Rattle.std.proofs.Common.{sym, ◌∙◌, ap}
 use Rattle.std.proofs.lemmas.List.{append-nil}
-use Rattle.std.proofs.lemmas.Bool.{false≢true, eqb-true, eq-eqb}
+use Rattle.std.proofs.lemmas.Bool.{false≢true, eqb-true}
 use Rattle.zone_image.specs.Image.{Image}
 use Rattle.log_model.specs.FileTable.{size_of}
 use Rattle.log_model.specs.Frames.{bytes_of}
-use Rattle.log_model.specs.FileTree.{TreeFile, apply, on_file}
+use Rattle.log_model.specs.FileTree.{apply, on_file}
 use Rattle.log_model.specs.FileTree.Change.{Grow}
-use Rattle.fs_model.specs.FsState.{FsState, TableRow, row_of, on_row, working_entry}
+use Rattle.fs_model.specs.FsState.{FsState, TableRow, row_of, on_row}
 use Rattle.fs_model.specs.FileSteps.{commit, committed, commit_time, show, shown_row}
 use Rattle.fs_model.specs.ValidRows.{IsApart, AreApart}
 use Rattle.fs_model.specs.CrashClauses.{shown_file, shown_tree, all_bytes}

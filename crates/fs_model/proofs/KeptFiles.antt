@@ -1,10 +1,10 @@
 -- Steps on files leave the others alone.
-use Rattle.std.specs.Prelude.{◌≡◌, ℕ, Bool, true, false, not, ◌==◌, List, [], ◌∷◌, ◌++◌, length, map, filter, Option, Some, None, refl, if◌then◌else◌}
-use Rattle.std.specs.Str.{bytes_eq}
+use Rattle.std.specs.Prelude.{◌≡◌, ℕ, Bool, true, false, ◌==◌, List, [], ◌∷◌, ◌++◌, map, filter, Option, Some, None, refl, if◌then◌else◌}
 use Rattle.std.proofs.Common.{sym, ◌∙◌, ap, inl}
 use Rattle.std.proofs.lemmas.Bool.{false≢true, eqb-true}
 use Rattle.fs_model.specs.FsState.{FsState, TableRow, on_row}
 use Rattle.fs_model.specs.TreeSteps.{with_names, drop_name, renamed_rows}
+use Rattle.log_model.specs.FileTable.{is_named, names_left}
 use Rattle.log_model.specs.FileTree.{renamed}
 use Rattle.fs_model.specs.LogSteps.{set_rows}
 use Rattle.fs_model.specs.Untouched.{SameFile, WasThere, KeepsFiles, is_one_of}
@@ -54,8 +54,8 @@ files_filtered ids test before (r ∷ rs) h = maybe_there ids (test r) r before 
 -- files that lost a name
 pub name_dropped : (ids : List ℕ) (name : List ℕ) (rows : List TableRow) → KeepsFiles ids rows (drop_name name rows)
 name_dropped ids name rows =
-    let g : TableRow → TableRow = λ r. with_names (filter (λ n. not (bytes_eq n name)) r.entry.names) r in
-    files_filtered ids (λ r. not (length r.entry.names == 0)) rows (map g rows) (files_renamed ids g rows (λ r. same_but_names (filter (λ n. not (bytes_eq n name)) r.entry.names) r))
+    let g : TableRow → TableRow = λ r. with_names (names_left (name ∷ []) r.entry.names) r in
+    files_filtered ids (λ r. is_named r.entry) rows (map g rows) (files_renamed ids g rows (λ r. same_but_names (names_left (name ∷ []) r.entry.names) r))
   where
     same_but_names : (names : List (List ℕ)) (r : TableRow) → SameFile (with_names names r) r
     same_but_names names r = record { id = refl; recorded = refl; unrecorded = refl; shown = refl; recovery_point = refl }

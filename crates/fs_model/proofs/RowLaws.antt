@@ -1,21 +1,19 @@
 -- The files after each change, where it is made and where it is refused.
-use Rattle.std.specs.Prelude.{◌≡◌, ℕ, ◌+◌, ◌-◌, ◌^◌, Bool, true, false, ◌&&◌, ◌==◌, nat_lt, List, [], ◌∷◌, ◌++◌, Option, Some, None, is_some, Result, Ok, Err, refl}
-use Rattle.std.proofs.Common.{sym, ◌∙◌, ap, subst}
+use Rattle.std.specs.Prelude.{◌≡◌, ℕ, ◌+◌, ◌-◌, ◌^◌, Bool, ◌==◌, List, [], ◌∷◌, ◌++◌, Option, Some, None, is_some, Ok, refl}
+use Rattle.std.proofs.Common.{◌∙◌, ap}
 use Rattle.record_model.specs.declared.types.Record.{Record}
 use Rattle.record_model.specs.declared.types.Record.TheVariants as records
 use Rattle.record_model.specs.declared.types.FileEntry.{FileEntry}
 use Rattle.log_model.specs.Headroom.{blocks_of_record}
-use Rattle.fs_model.specs.declared.error.FsError.{FsError}
-use Rattle.fs_model.specs.declared.error.FsError.TheVariants.{NotFound, Exists, IdsEnd, SequenceEnd}
+use Rattle.fs_model.specs.declared.error.FsError.TheVariants.{Exists, IdsEnd}
 use Rattle.fs_model.specs.FsState.{FsState, TableRow, row_named, on_row}
-use Rattle.fs_model.specs.Trace.{Action, done, refuse, step, refuse_if, continue, ◌>>=◌, ◌>>◌, from_state, each}
+use Rattle.fs_model.specs.Trace.{done, step, refuse_if, ◌>>◌, from_state}
 use Rattle.fs_model.specs.LogSteps.{FsAction, NoValue, reset_zone, resettable_zones, reset_dead_zones, add_record, refuse_sequence, refuse_above, rows_need, block_of, set_rows}
-use Rattle.fs_model.specs.TreeSteps.{change_rows, new_entry, new_row, create_entry, create, with_names, entry_update, link_to, link, renamed_rows, entry_in, rename_to, rename, drop_name, delete_by, delete_row, delete}
+use Rattle.fs_model.specs.TreeSteps.{change_rows, new_entry, new_row, create, with_names, entry_update, link_to, renamed_rows, entry_in, rename_to, drop_name, delete_by, delete_row}
 use Rattle.fs_model.specs.LogSteps.{set_row}
 use Rattle.fs_model.specs.FileSteps.{or_gone, commit_blocks, commit_record, committed}
 use Rattle.fs_model.proofs.EachLaws.{split}
-use Rattle.fs_model.proofs.SureLaws.{IsSure, sure_resets, sure_step, sure_then}
-use Rattle.fs_model.proofs.SameRows.{HasSameRows, rows_then, rows_from, rows_each, rows_reset, rows_refuse, rows_tests, rows_need_test, rows_record}
+use Rattle.fs_model.proofs.SameRows.{HasSameRows, rows_then, rows_from, rows_each, rows_reset, rows_tests, rows_need_test, rows_record}
 
 -- resets leave the files as they are
 rows_resets : HasSameRows reset_dead_zones

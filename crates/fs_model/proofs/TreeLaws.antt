@@ -1,17 +1,18 @@
 -- The tree that is shown after a change is the tree before with the change made.
-use Rattle.std.specs.Prelude.{◌≡◌, ⊤, ℕ, ◌+◌, Bool, true, false, not, ◌||◌, ◌==◌, List, [], ◌∷◌, ◌++◌, length, map, filter, Option, Some, None, Ok, option_map, refl, if◌then◌else◌}
+use Rattle.std.specs.Prelude.{◌≡◌, ℕ, ◌+◌, Bool, true, false, not, ◌||◌, ◌==◌, List, [], ◌∷◌, ◌++◌, map, Option, Some, None, Ok, option_map, refl, if◌then◌else◌}
 use Rattle.std.specs.List.{AllByRecursion}
 use Rattle.std.specs.Str.{bytes_eq}
 use Rattle.std.proofs.Common.{sym, ◌∙◌, ap, subst}
 use Rattle.std.proofs.lemmas.List.{map-append}
 use Rattle.std.proofs.lemmas.Bool.{false≢true, eqb-true, eq-eqb}
 use Rattle.zone_image.specs.Image.{Image}
-use Rattle.log_model.specs.FileTable.{is_among}
+use Rattle.std.specs.Cmp.Lexicographic.{same_text, other_text}
+use Rattle.log_model.specs.FileTable.{is_among, is_named, names_left}
 use Rattle.log_model.specs.FileTree.{Tree, TreeFile, apply, id_of, on_file, link_in, rename_in, renamed, has_names, without_name}
 use Rattle.log_model.specs.FileTree as trees
 use Rattle.log_model.specs.FileTree.Change.{Create, Link, Rename, Unlink}
 use Rattle.fs_model.specs.FsState.{FsState, TableRow, row_named, on_row}
-use Rattle.fs_model.specs.TreeSteps.{new_entry, new_row, create, with_names, link_to, link, renamed_rows, rename_to, rename, drop_name, delete_row, delete}
+use Rattle.fs_model.specs.TreeSteps.{new_entry, new_row, create, with_names, link, renamed_rows, rename, drop_name, delete}
 use Rattle.fs_model.specs.ValidRows.{IsApart, AreApart}
 use Rattle.fs_model.specs.CrashClauses.{shown_file, shown_tree}
 use Rattle.fs_model.proofs.RowLaws.{create_made, link_made, rename_made, delete_made}
@@ -33,8 +34,8 @@ drop_choice i false r rows = refl
 drop_shown : (i : Image) (name : List ℕ) (rows : List TableRow) → map (shown_file i) (drop_name name rows) ≡ trees.drop_name name (map (shown_file i) rows)
 drop_shown i name [] = refl
 drop_shown i name (r ∷ rs) =
-    let left : TableRow = with_names (filter (λ n. not (bytes_eq n name)) r.entry.names) r in
-    let there : Bool = not (length left.entry.names == 0) in
+    let left : TableRow = with_names (names_left (name ∷ []) r.entry.names) r in
+    let there : Bool = is_named left.entry in
     drop_choice i there left (drop_name name rs)
     ∙ ap (λ fs. if there then shown_file i left ∷ fs else fs) (drop_shown i name rs)
 
@@ -155,12 +156,20 @@ neither : (a b : Bool) → (a || b) ≡ false → (a ≡ false) × (b ≡ false)
 neither true b h = absurd (false≢true (sym h))
 neither false b h = (refl, h)
 
+-- a name that isn't another, the other way round
+other_way : (n m : List ℕ) → bytes_eq n m ≡ false → bytes_eq m n ≡ false
+other_way n m h = not_true (bytes_eq m n) (λ is. false≢true (sym h ∙ ap (λ k. bytes_eq k m) (sym (same_text m n (sym is))) ∙ itself (bytes_eq m m) m refl))
+  where
+    itself : (b : Bool) (k : List ℕ) → bytes_eq k k ≡ b → b ≡ true
+    itself true k is = refl
+    itself false k is = absurd (other_text k k (sym is) refl)
+
 -- names without one that isn't among them
-without_absent : (names : List (List ℕ)) (name : List ℕ) → is_among names name ≡ false → filter (λ n. not (bytes_eq n name)) names ≡ names
+without_absent : (names : List (List ℕ)) (name : List ℕ) → is_among names name ≡ false → names_left (name ∷ []) names ≡ names
 without_absent [] name h = refl
 without_absent (n ∷ ns) name h =
     let parts = neither (bytes_eq n name) (is_among ns name) h in
-    ap (λ b. if not b then n ∷ filter (λ m. not (bytes_eq m name)) ns else filter (λ m. not (bytes_eq m name)) ns) parts.0 ∙ ap (λ ms. n ∷ ms) (without_absent ns name parts.1)
+    ap (λ b. if not (b || false) then n ∷ names_left (name ∷ []) ns else names_left (name ∷ []) ns) (other_way n name parts.0) ∙ ap (λ ms. n ∷ ms) (without_absent ns name parts.1)
 
 -- the file of a name, after another name was dropped
 dropped_choice : (P : TableRow → Type 0) (b : Bool) (r : TableRow) (rs : List TableRow) → P r → AllByRecursion P rs → AllByRecursion P (if b then r ∷ rs else rs)
@@ -169,11 +178,11 @@ dropped_choice P false r rs h k = k
 
 -- what holds of each file without a name holds of the files without it
 all_dropped : (P : TableRow → Type 0) (name : List ℕ) (rows : List TableRow)
-    → AllByRecursion (λ q. P (with_names (filter (λ n. not (bytes_eq n name)) q.entry.names) q)) rows → AllByRecursion P (drop_name name rows)
+    → AllByRecursion (λ q. P (with_names (names_left (name ∷ []) q.entry.names) q)) rows → AllByRecursion P (drop_name name rows)
 all_dropped P name [] h = tt
 all_dropped P name (r ∷ rs) h =
-    let left : TableRow = with_names (filter (λ n. not (bytes_eq n name)) r.entry.names) r in
-    dropped_choice P (not (length left.entry.names == 0)) left (drop_name name rs) h.0 (all_dropped P name rs h.1)
+    let left : TableRow = with_names (names_left (name ∷ []) r.entry.names) r in
+    dropped_choice P (is_named left.entry) left (drop_name name rs) h.0 (all_dropped P name rs h.1)
 
 -- two equal tests of ids, the other way round
 ids_turned : (n m : ℕ) (b : Bool) → (n == m) ≡ b → (m == n) ≡ b
@@ -192,8 +201,8 @@ taken_shown i old new r other rows apart is there differs =
     not_true (is_among r.entry.names new) (λ has. false≢true (sym differs ∙ eq-eqb other.entry.id r.entry.id (sym (ap (λ p. p.entry.id) (at_name (λ q. is_among q.entry.names new ≡ true → q ≡ other) old rows r holder is has))))) in
     names_shown i r.entry.id (g r.entry.names) g (drop_name new rows)
     (all_dropped (λ q. (q.entry.id == r.entry.id) ≡ true → g q.entry.names ≡ g r.entry.names) new rows
-    (all_map (λ q. (q.entry.id == r.entry.id) ≡ true → q ≡ r) (λ q. (q.entry.id == r.entry.id) ≡ true → g (filter (λ n. not (bytes_eq n new)) q.entry.names) ≡ g r.entry.names) rows
-    (λ q only same. ap (λ p. g (filter (λ n. not (bytes_eq n new)) p.entry.names)) (only same) ∙ ap g (without_absent r.entry.names new absent)) (only_one old rows r apart is)))
+    (all_map (λ q. (q.entry.id == r.entry.id) ≡ true → q ≡ r) (λ q. (q.entry.id == r.entry.id) ≡ true → g (names_left (new ∷ []) q.entry.names) ≡ g r.entry.names) rows
+    (λ q only same. ap (λ p. g (names_left (new ∷ []) p.entry.names)) (only same) ∙ ap g (without_absent r.entry.names new absent)) (only_one old rows r apart is)))
     ∙ ap (λ fs. on_file r.entry.id (λ f. record f { names = g f.names }) fs) (drop_shown i new rows)
 
 -- a rename, by whether both names are of one file

@@ -1,19 +1,14 @@
 -- Worked cases of the collection, computed.
 use Rattle.std.specs.Prelude.{◌≡◌, ℕ, zero, suc, ◌+◌, ◌*◌, ◌-◌, ◌^◌, true, false, Bool, List, [], ◌∷◌, ◌++◌, replicate, map, take, codes, Option, None, Ok, refl}
-use Rattle.record_model.specs.Numbers.{varint}
-use Rattle.record_model.specs.Encoding.{payload_of, entry_bytes}
+use Rattle.fs_model.specs.Opened.{collecting}
 use Rattle.record_model.specs.declared.types.Extent.{Extent}
 use Rattle.fs_model.specs.declared.zones.Owner.TheVariants.{Idle, Collector}
-use Rattle.fs_model.specs.VictimPolicy.{victim}
 use Rattle.fs_model.specs.ZonePolicy.{free_percent}
 use Rattle.fs_model.specs.FsState.{ZoneDescriptor, TableRow, descriptor_at, on_descriptor, zone_states}
 use Rattle.fs_model.specs.Trace.{◌>>◌}
-use Rattle.fs_model.specs.LogSteps.{roll}
-use Rattle.fs_model.specs.FileSteps.{commit, recovery_point_fits, take_zone, note_extent, extent_fits, show, give_back, mark_open, mark_closed}
 use Rattle.fs_model.specs.Migration as collector
 use Rattle.fs_model.specs.Migration.{Collecting, CollectorAction, Round, round, settle}
 use Rattle.fs_model.specs.declared.policy.Plan.{Plan}
-use Rattle.fs_model.specs.FileSteps as file_steps
 use Rattle.fs_model.specs.LogSteps.{set_rows}
 use Rattle.fs_model.specs.StepExamples.{g, zone, superblock, formatted}
 
@@ -55,17 +50,17 @@ marks s = map (λ n. ((descriptor_at s.fs n).info.written, (descriptor_at s.fs n
 
 -- the victim is empty, and the destination has its block
 collected_zone : marks (four_rounds crowded).last ≡ (10, false) ∷ (0, false) ∷ (1, false) ∷ []
-unfolding round victim file_steps.hold file_steps.replace file_steps.reset_victim file_steps.give_back payload_of entry_bytes varint roll
+unfolding collecting
 collected_zone = refl
 
 -- the first round begins it
 first_round : (round crowded).answer ≡ Ok Round.Begun
-unfolding round victim file_steps.hold file_steps.replace file_steps.reset_victim file_steps.give_back payload_of entry_bytes varint roll
+unfolding collecting
 first_round = refl
 
 -- the fourth round retires the victim
 collected_answer : (four_rounds crowded).answer ≡ Ok Round.Retired
-unfolding round victim file_steps.hold file_steps.replace file_steps.reset_victim file_steps.give_back payload_of entry_bytes varint roll
+unfolding collecting
 collected_answer = refl
 
 -- the extents of the last file
@@ -76,7 +71,7 @@ last_extents (r ∷ q ∷ rs) = last_extents (q ∷ rs)
 
 -- its extent is in the destination
 collected_extent : last_extents (four_rounds crowded).last.fs.rows ≡ (record { start = 221184; len = 512 }) ∷ []
-unfolding round victim file_steps.hold file_steps.replace file_steps.reset_victim file_steps.give_back payload_of entry_bytes varint roll
+unfolding collecting
 collected_extent = refl
 
 -- the file is deleted between copy and publish
@@ -85,12 +80,12 @@ deleted_between = round >> round >> collector.on_fs (set_rows (take 23)) >> roun
 
 -- the copy is dropped
 dropped : (deleted_between crowded).answer ≡ Ok Round.Dropped
-unfolding round victim file_steps.hold file_steps.replace file_steps.reset_victim file_steps.give_back payload_of entry_bytes varint roll
+unfolding collecting
 dropped = refl
 
 -- the victim is retired all the same, and the copy is left without a file
 dropped_zones : marks ((deleted_between >> round) crowded).last ≡ (9, false) ∷ (0, false) ∷ (1, false) ∷ []
-unfolding round victim file_steps.hold file_steps.replace file_steps.reset_victim file_steps.give_back payload_of entry_bytes varint roll
+unfolding collecting
 dropped_zones = refl
 
 -- the plan that is left
@@ -99,22 +94,22 @@ plan_after s = collector.plan_of s.fs
 
 -- after the victim is reset the free part is 20 percent, and no full zone has garbage
 no_more : plan_after (four_rounds crowded).last ≡ None
-unfolding round settle victim file_steps.hold file_steps.replace file_steps.reset_victim file_steps.give_back payload_of entry_bytes varint roll
+unfolding collecting
 no_more = refl
 
 -- so much is free then
 percent_after : free_percent g (zone_states (four_rounds crowded).last.fs) ≡ 20
-unfolding round victim file_steps.hold file_steps.replace file_steps.reset_victim file_steps.give_back payload_of entry_bytes varint roll
+unfolding collecting
 percent_after = refl
 
 -- settling retires one victim
 settled_one : (settle crowded).answer ≡ Ok 1
-unfolding round settle victim file_steps.hold file_steps.replace file_steps.reset_victim file_steps.give_back payload_of entry_bytes varint roll
+unfolding collecting
 settled_one = refl
 
 -- and it leaves the same zones as the four rounds
 settled_same : marks (settle crowded).last ≡ (10, false) ∷ (0, false) ∷ (1, false) ∷ []
-unfolding round settle victim file_steps.hold file_steps.replace file_steps.reset_victim file_steps.give_back payload_of entry_bytes varint roll
+unfolding collecting
 settled_same = refl
 
 -- one extent more than half a block: copied so that it keeps its place within the block
@@ -123,7 +118,7 @@ shifted = record crowded { fs = record (crowded.fs) { rows = take 22 (files_from
 
 -- the copy keeps the place within its block
 shifted_extent : last_extents (four_rounds shifted).last.fs.rows ≡ (record { start = 27 * 8192 + 188; len = 100 }) ∷ []
-unfolding round settle victim file_steps.hold file_steps.replace file_steps.reset_victim file_steps.give_back payload_of entry_bytes varint roll
+unfolding collecting
 shifted_extent = refl
 
 -- the collector's own zone is empty, with the hint of an earlier victim; a plan that uses it leaves the hint
@@ -132,5 +127,5 @@ own_empty = record crowded { fs = record (crowded.fs) { zones = on_descriptor 27
 
 -- the hint is that of the zone's opening
 kept_hint : (descriptor_at (round own_empty).last.fs 27).hint ≡ 4
-unfolding round settle victim file_steps.hold file_steps.replace file_steps.reset_victim file_steps.give_back payload_of entry_bytes varint roll
+unfolding collecting
 kept_hint = refl

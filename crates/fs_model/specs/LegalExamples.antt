@@ -1,11 +1,9 @@
 -- Legal histories, computed.
 use Rattle.std.specs.Prelude.{◌≡◌, ℕ, true, false, List, [], ◌∷◌, codes, replicate, map, refl}
+use Rattle.fs_model.specs.Opened.{writing}
 use Rattle.std.proofs.Common.{inl, sym, arith}
 use Rattle.std.proofs.lemmas.Bool.{false≢true}
-use Rattle.record_model.specs.Numbers.{varint}
 use Rattle.crc32c_core.specs.Checksum.{crc32c}
-use Rattle.record_model.specs.Encoding.{payload_of, entry_bytes}
-use Rattle.log_model.specs.Headroom.{log_need, change_need}
 use Rattle.log_model.specs.FileTree.{Tree, apply}
 use Rattle.fs_model.specs.declared.error.FsError.TheVariants.{NotFound}
 use Rattle.fs_model.specs.declared.operations.Op.{Op}
@@ -15,11 +13,7 @@ use Rattle.fs_model.specs.declared.operations.Reply.TheVariants as replies
 use Rattle.fs_model.specs.declared.operations.Made.{Made}
 use Rattle.fs_model.specs.declared.operations.Made.TheVariants as made
 use Rattle.fs_model.specs.declared.operations.Entry.{Entry}
-use Rattle.fs_model.specs.ZonePolicy.{choose_zone}
-use Rattle.fs_model.specs.LogSteps.{roll}
-use Rattle.fs_model.specs.TreeSteps.{create, rename, delete, mount_write}
-use Rattle.fs_model.specs.FileSteps.{commit, recovery_point_fits, take_zone, note_extent, extent_fits, show, give_back, mark_open, mark_closed}
-use Rattle.fs_model.specs.WriterSteps as writers
+use Rattle.fs_model.specs.TreeSteps.{mount_write}
 use Rattle.fs_model.specs.Turn.{LockState, turn}
 use Rattle.fs_model.specs.History.{initial_history, after_entries}
 use Rattle.fs_model.specs.HistoryCover.{acknowledged_by, tree_after}
@@ -122,7 +116,7 @@ one_job_legal = (
 
 -- its states are those of the turns
 one_job_runs : IsExecution start one_job (opened ∷ appended ∷ synced ∷ read_back ∷ closed ∷ ended ∷ [])
-unfolding turn create delete mount_write roll commit recovery_point_fits take_zone note_extent extent_fits show give_back mark_open mark_closed writers.sync writers.close choose_zone payload_of entry_bytes varint log_need change_need
+unfolding writing
 one_job_runs = (
   (refl, refl),
   ((turn 1 open_a 7 start).passed, [], refl, refl),
@@ -230,7 +224,7 @@ renamed_first = refl
 
 -- the states when the rename comes last, and when it comes first
 rename_last_runs : IsExecution start rename_last (opened ∷ next 1 ops.Close opened ∷ next 2 rename_a (next 1 ops.Close opened) ∷ [])
-unfolding turn create delete mount_write roll commit recovery_point_fits take_zone note_extent extent_fits show give_back mark_open mark_closed writers.sync writers.close choose_zone payload_of entry_bytes varint log_need change_need rename
+unfolding writing
 rename_last_runs = (
   (refl, refl),
   ((turn 1 open_a 7 start).passed, [], refl, refl),
@@ -243,7 +237,7 @@ rename_last_runs = (
 
 -- the states when the rename comes first
 rename_first_runs : IsExecution start rename_first (next 2 rename_a start ∷ next 1 open_a (next 2 rename_a start) ∷ next 1 ops.Close (next 1 open_a (next 2 rename_a start)) ∷ [])
-unfolding turn create delete mount_write roll commit recovery_point_fits take_zone note_extent extent_fits show give_back mark_open mark_closed writers.sync writers.close choose_zone payload_of entry_bytes varint log_need change_need rename
+unfolding writing
 rename_first_runs = (
   (refl, refl),
   ((turn 2 rename_a 7 start).passed, [], refl, refl),

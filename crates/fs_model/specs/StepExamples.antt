@@ -1,16 +1,14 @@
 -- Worked cases of the steps, computed.
 use Rattle.std.specs.Prelude.{◌≡◌, ℕ, zero, suc, ◌+◌, true, false, List, [], ◌∷◌, replicate, map, codes, Ok, Err, refl}
+use Rattle.fs_model.specs.Opened.{changing}
 use Rattle.zone_image.specs.declared.Geometry.{Geometry}
-use Rattle.record_model.specs.Numbers.{varint}
-use Rattle.record_model.specs.Encoding.{payload_of, entry_bytes}
 use Rattle.record_model.specs.declared.types.Extent.{Extent}
 use Rattle.superblock_core.specs.declared.superblock.Superblock.{Superblock}
-use Rattle.log_model.specs.Headroom.{log_need, change_need}
 use Rattle.fs_model.specs.declared.zones.Owner.TheVariants.{Idle}
 use Rattle.fs_model.specs.declared.error.FsError.TheVariants.{MetaFull}
 use Rattle.fs_model.specs.FsState.{FsState, ZoneDescriptor, descriptor_at}
 use Rattle.fs_model.specs.Trace.{done, ◌>>◌}
-use Rattle.fs_model.specs.LogSteps.{NoValue, FsAction, roll}
+use Rattle.fs_model.specs.LogSteps.{NoValue, FsAction}
 use Rattle.fs_model.specs.TreeSteps.{create, rename, delete, mount_write}
 use Rattle.fs_model.specs.Turn.{LockState, new_lock}
 
@@ -72,27 +70,27 @@ second_mount = ((mount_write >> create a 0 false 7 >> mount_write) formatted).la
 
 -- one mount makes a file, and a second puts the log into zone 2 with sequence 3 and 3 blocks
 two_mounts : written second_mount ≡ 0 ∷ 0 ∷ 3 ∷ 0 ∷ 0 ∷ []
-unfolding create mount_write roll payload_of entry_bytes varint log_need change_need
+unfolding changing
 two_mounts = refl
 
 -- twelve records leave one block for the end
 twelve_renames : written ((back_and_forth 6) second_mount).last ≡ 0 ∷ 0 ∷ 15 ∷ 0 ∷ 0 ∷ []
-unfolding create mount_write roll rename payload_of entry_bytes varint log_need change_need
+unfolding changing
 twelve_renames = refl
 
 -- the thirteenth rolls
 thirteen_renames : written ((back_and_forth 6 >> rename a b) second_mount).last ≡ 4 ∷ 0 ∷ 0 ∷ 0 ∷ 0 ∷ []
-unfolding create mount_write roll rename payload_of entry_bytes varint log_need change_need
+unfolding changing
 thirteen_renames = refl
 
 -- with the next sequence
 rolled_sequence : ((back_and_forth 6 >> rename a b) second_mount).last.log.superblock.sequence ≡ 4
-unfolding create mount_write roll rename payload_of entry_bytes varint log_need change_need
+unfolding changing
 rolled_sequence = refl
 
 -- and the name moved
 renamed_in_the_end : names ((back_and_forth 6 >> rename a b) second_mount).last ≡ (b ∷ []) ∷ []
-unfolding create mount_write roll rename payload_of entry_bytes varint log_need change_need
+unfolding changing
 renamed_in_the_end = refl
 
 -- two empty files
@@ -105,22 +103,22 @@ ids s = map (λ r. r.entry.id) s.rows
 
 -- a rename onto another file's name takes it from that file, which is gone then
 renamed_over : ids ((two_made >> rename b a) formatted).last ≡ 2 ∷ []
-unfolding create mount_write roll rename payload_of entry_bytes varint log_need change_need
+unfolding changing
 renamed_over = refl
 
 -- and the other has it
 renamed_over_name : names ((two_made >> rename b a) formatted).last ≡ (a ∷ []) ∷ []
-unfolding create mount_write roll rename payload_of entry_bytes varint log_need change_need
+unfolding changing
 renamed_over_name = refl
 
 -- a rename to the same name changes nothing, though it takes a record
 renamed_to_itself : names ((two_made >> rename a a) formatted).last ≡ (a ∷ []) ∷ (b ∷ []) ∷ []
-unfolding create mount_write roll rename payload_of entry_bytes varint log_need change_need
+unfolding changing
 renamed_to_itself = refl
 
 -- its record
 record_of_itself : written ((two_made >> rename a a) formatted).last ≡ 0 ∷ 6 ∷ 0 ∷ 0 ∷ 0 ∷ []
-unfolding create mount_write roll rename payload_of entry_bytes varint log_need change_need
+unfolding changing
 record_of_itself = refl
 
 -- eight files with names of 200 bytes on a device of eight blocks a zone
@@ -141,12 +139,12 @@ seven_files = mount_write >> make 1 >> make 2 >> make 3 >> make 4 >> make 5 >> m
 
 -- an eighth needs nine blocks
 eighth_refused : (make 8 (seven_files (formatted_on c)).last).answer ≡ Err (MetaFull 9 8)
-unfolding create mount_write roll payload_of entry_bytes varint log_need change_need
+unfolding changing
 eighth_refused = refl
 
 -- a deletion fits all the same
 one_deleted : (delete (name 3) (seven_files (formatted_on c)).last).answer ≡ Ok tt
-unfolding create mount_write roll delete payload_of entry_bytes varint log_need change_need
+unfolding changing
 one_deleted = refl
 
 -- a lock over it

@@ -1,10 +1,10 @@
 -- The steps of changes of the tree, and of mounting for writing.
-use Rattle.std.specs.Prelude.{ℕ, ◌+◌, ◌-◌, ◌^◌, Bool, not, List, [], ◌∷◌, ◌++◌, length, map, filter, Option, Some, None, is_some, ◌==◌, if◌then◌else◌, unwrap_or, option_map}
+use Rattle.std.specs.Prelude.{ℕ, ◌+◌, ◌-◌, ◌^◌, Bool, List, [], ◌∷◌, ◌++◌, map, filter, Option, Some, None, is_some, ◌==◌, if◌then◌else◌, unwrap_or, option_map}
 use Rattle.std.specs.List.{count_by}
-use Rattle.std.specs.Str.{bytes_eq}
 use Rattle.record_model.specs.declared.types.FileEntry.{FileEntry}
 use Rattle.record_model.specs.declared.types.Record.{Record}
 use Rattle.record_model.specs.declared.types.Record.TheVariants as records
+use Rattle.log_model.specs.FileTable.{is_named, names_left}
 use Rattle.log_model.specs.FileTree.{renamed}
 use Rattle.log_model.specs.Frames.{no_active}
 use Rattle.log_model.specs.Headroom.{blocks_of_record, log_need}
@@ -64,7 +64,7 @@ entry_update e = records.Update (record e { extents = [] })
 -- takes a name away; a file that has none left is gone
 abbrev pub drop_name : List ℕ → List TableRow → List TableRow
 drop_name name rows =
-    filter (λ r. not (length r.entry.names == 0)) (map (λ r. with_names (filter (λ n. not (bytes_eq n name)) r.entry.names) r) rows)
+    filter (λ r. is_named r.entry) (map (λ r. with_names (names_left (name ∷ []) r.entry.names) r) rows)
 
 -- links a file, if there is one
 abbrev pub link_to : FsState → Option TableRow → List ℕ → FsAction NoValue

@@ -1,18 +1,15 @@
 -- Worked cases of the writers, computed.
 use Rattle.std.specs.Prelude.{◌≡◌, ℕ, ◌+◌, ◌*◌, ◌-◌, ◌^◌, true, false, List, [], ◌∷◌, replicate, map, codes, Ok, Err, refl}
+use Rattle.fs_model.specs.Opened.{writing}
 use Rattle.zone_image.specs.declared.Geometry.{Geometry}
-use Rattle.record_model.specs.Numbers.{varint}
-use Rattle.record_model.specs.Encoding.{payload_of, entry_bytes}
-use Rattle.log_model.specs.Headroom.{log_need, change_need}
 use Rattle.fs_model.specs.declared.error.FsError.TheVariants.{Busy, Gone, Exists, InUse}
-use Rattle.fs_model.specs.ZonePolicy.{choose_zone}
 use Rattle.fs_model.specs.FsState.{ZoneDescriptor, TableRow}
 use Rattle.fs_model.specs.Trace.{done, ◌>>◌}
-use Rattle.fs_model.specs.LogSteps.{NoValue, roll}
+use Rattle.fs_model.specs.LogSteps.{NoValue}
 use Rattle.record_model.specs.declared.types.Extent.{Extent}
 use Rattle.fs_model.specs.declared.operations.Op.TheVariants as ops
-use Rattle.fs_model.specs.TreeSteps.{create, mount_write, delete, link}
-use Rattle.fs_model.specs.FileSteps.{commit, recovery_point_fits, take_zone, note_extent, extent_fits, show, give_back, mark_open, mark_closed}
+use Rattle.fs_model.specs.TreeSteps.{mount_write, delete, link}
+use Rattle.fs_model.specs.FileSteps.{mark_open}
 use Rattle.fs_model.specs.WriterSteps as writers
 use Rattle.fs_model.specs.Trace.{intermediate_states}
 use Rattle.fs_model.specs.Execution.{rises}
@@ -31,7 +28,7 @@ sparse_five =
 
 -- a frame for each sync
 sparse_frames : map (λ r. r.unrecorded) (sparse_five (locked formatted)).last.fs.rows ≡ ((record { start = 24584; len = 3 }) ∷ (record { start = 25096; len = 5 }) ∷ []) ∷ []
-unfolding create mount_write roll commit recovery_point_fits take_zone note_extent extent_fits show give_back mark_open mark_closed writers.sync writers.close choose_zone payload_of entry_bytes varint log_need change_need
+unfolding writing
 sparse_frames = refl
 
 -- two writers with an active limit of three: the second gets no zone until the first is closed
@@ -44,17 +41,17 @@ two_writers = on_fs mount_write >> open_file 1 a 0 false 7 >> append_all 1 1 7 >
 
 -- the second gets none
 second_is_busy : ((two_writers >> append_all 2 1 7) (locked (formatted_on narrow))).answer ≡ Err Busy
-unfolding create mount_write roll commit recovery_point_fits take_zone note_extent extent_fits give_back mark_open mark_closed writers.sync writers.close choose_zone payload_of entry_bytes varint log_need change_need
+unfolding writing
 second_is_busy = refl
 
 -- and then it does
 second_goes_on : ((two_writers >> with_writer 1 (λ w. close_file 1 w 7) (done tt) >> append_all 2 1 7) (locked (formatted_on narrow))).answer ≡ Ok tt
-unfolding create mount_write roll commit recovery_point_fits take_zone note_extent extent_fits give_back mark_open mark_closed writers.sync writers.close choose_zone payload_of entry_bytes varint log_need change_need
+unfolding writing
 second_goes_on = refl
 
 -- a file has one writer at a time
 second_writer : ((two_writers >> on_fs (mark_open 1)) (locked (formatted_on narrow))).answer ≡ Err InUse
-unfolding create mount_write roll commit recovery_point_fits take_zone note_extent extent_fits give_back mark_open mark_closed writers.sync writers.close choose_zone payload_of entry_bytes varint log_need change_need
+unfolding writing
 second_writer = refl
 
 -- ---- a file that fills its zone, and one byte more
@@ -87,12 +84,12 @@ whole_file name n = open_file 0 name 0 false 7 >> append_all 0 n 7 >> with_write
 two_files : extents ((whole_file a 512 >> whole_file b 513) two_nearly_full).last.fs
     ≡ ((record { start = 24576; len = 7680 }) ∷ []) ∷ ((record { start = 32768; len = 7680 }) ∷ [])
     ∷ ((record { start = 32256; len = 512 }) ∷ []) ∷ ((record { start = 40448; len = 512 }) ∷ (record { start = 40960; len = 1 }) ∷ []) ∷ []
-unfolding create mount_write roll commit recovery_point_fits take_zone note_extent extent_fits show give_back mark_open mark_closed writers.sync writers.close choose_zone payload_of entry_bytes varint log_need change_need
+unfolding writing
 two_files = refl
 
 -- both zones are full then, and the third has a block
 two_files_zones : written ((whole_file a 512 >> whole_file b 513) two_nearly_full).last.fs ≡ 8 ∷ 0 ∷ 0 ∷ 16 ∷ 16 ∷ []
-unfolding create mount_write roll commit recovery_point_fits take_zone note_extent extent_fits show give_back mark_open mark_closed writers.sync writers.close choose_zone payload_of entry_bytes varint log_need change_need
+unfolding writing
 two_files_zones = refl
 
 -- a sparse file over two zones, of which the first has one block left: the frame is shortened, and the rest goes on
@@ -108,12 +105,12 @@ last_file (r ∷ q ∷ rs) = last_file (q ∷ rs)
 -- the first frame is committed with its zone; the second stands behind the recovery point
 over_two_zones : last_file (over_two one_nearly_full).last.fs.rows
     ≡ ((record { start = 32264; len = 504 }) ∷ [], (record { start = 32776; len = 6 }) ∷ [], 510, 32768) ∷ []
-unfolding create mount_write roll commit recovery_point_fits take_zone note_extent extent_fits show give_back mark_open mark_closed writers.sync writers.close choose_zone payload_of entry_bytes varint log_need change_need
+unfolding writing
 over_two_zones = refl
 
 -- an append of no bytes is refused as well, where the file is gone
 gone_append : (open_file 0 a 0 false 7 >> on_fs (delete a) >> turn 0 (ops.Append 0 0) 7) (locked formatted) ≡ record { passed = ((open_file 0 a 0 false 7 >> on_fs (delete a) >> turn 0 (ops.Append 0 0) 7) (locked formatted)).passed; last = ((open_file 0 a 0 false 7 >> on_fs (delete a)) (locked formatted)).last; answer = Err Gone }
-unfolding create mount_write roll commit recovery_point_fits take_zone note_extent extent_fits show give_back mark_open mark_closed writers.sync writers.close choose_zone payload_of entry_bytes varint log_need change_need turn delete
+unfolding writing
 gone_append = refl
 
 -- ---- names of one file
@@ -124,25 +121,25 @@ linked = whole_file a 1 >> on_fs (link a b) >> on_fs (delete a)
 
 -- it stands under its second name
 linked_names : names (linked (locked formatted)).last.fs ≡ (b ∷ []) ∷ []
-unfolding create mount_write roll commit recovery_point_fits take_zone note_extent extent_fits show give_back mark_open mark_closed writers.sync writers.close choose_zone payload_of entry_bytes varint log_need change_need delete link
+unfolding writing
 linked_names = refl
 
 -- a name that is there isn't linked again
 linked_twice : ((whole_file a 1 >> on_fs (link a b) >> on_fs (link a b)) (locked formatted)).answer ≡ Err Exists
-unfolding create mount_write roll commit recovery_point_fits take_zone note_extent extent_fits show give_back mark_open mark_closed writers.sync writers.close choose_zone payload_of entry_bytes varint log_need change_need delete link
+unfolding writing
 linked_twice = refl
 
 -- with its last name its zone is empty again
 unlinked_zone : written ((linked >> on_fs (delete b)) (locked formatted)).last.fs ≡ 8 ∷ 0 ∷ 0 ∷ 0 ∷ 0 ∷ []
-unfolding create mount_write roll commit recovery_point_fits take_zone note_extent extent_fits show give_back mark_open mark_closed writers.sync writers.close choose_zone payload_of entry_bytes varint log_need change_need delete link
+unfolding writing
 unlinked_zone = refl
 
 -- a block and a byte over two zones: bytes come to be shown once by the commit of the full zone, and once by the close
 shown_twice : rises 3 0 (intermediate_states (whole_file b 513 two_nearly_full)) ≡ 512 ∷ 513 ∷ []
-unfolding create mount_write roll commit recovery_point_fits take_zone note_extent extent_fits show give_back mark_open mark_closed writers.sync writers.close choose_zone payload_of entry_bytes varint log_need change_need
+unfolding writing
 shown_twice = refl
 
 -- two frames over two zones: each is shown by its own sync, and the commit between them shows nothing
 shown_by_frames : rises 2 0 (intermediate_states (over_two one_nearly_full)) ≡ 504 ∷ 510 ∷ []
-unfolding create mount_write roll commit recovery_point_fits take_zone note_extent extent_fits show give_back mark_open mark_closed writers.sync writers.close choose_zone payload_of entry_bytes varint log_need change_need
+unfolding writing
 shown_by_frames = refl

@@ -1,5 +1,5 @@
 -- The steps of writers: bytes go into a buffer, and blocks from it to a zone.
-use Rattle.std.specs.Prelude.{ℕ, zero, suc, ◌+◌, ◌*◌, ◌-◌, min, Bool, true, false, ◌&&◌, List, [], length, Option, Some, None, is_some, is_none, nat_lt, ◌==◌, if◌then◌else◌}
+use Rattle.std.specs.Prelude.{◌≡◌, ℕ, zero, suc, ◌+◌, ◌*◌, ◌-◌, min, Bool, true, false, ◌&&◌, List, [], length, Option, Some, None, is_some, is_none, nat_lt, ◌==◌, if◌then◌else◌}
 use Rattle.std.specs.Int.{div_ceil}
 use Rattle.record_model.specs.declared.types.Extent.{Extent}
 use Rattle.fs_model.specs.declared.error.FsError.TheVariants.{Gone}
@@ -128,21 +128,25 @@ next_start s = next_of s.fs s.writer.zone
 abbrev pub ensure_zone : WriterAction NoValue
 ensure_zone = from_state (λ s. when (is_none s.writer.zone) (extent_fits >> take_zone))
 
--- takes a byte into the buffer
-abbrev pub take_byte : WriterAction NoValue
-take_byte = from_state (λ s.
-    note (record { start = next_start s + s.writer.buffered; len = 1 })
-    >> set_buffered (s.writer.buffered + 1))
+-- takes so many bytes into the buffer
+abbrev pub take_bytes : ℕ → WriterAction NoValue
+take_bytes n = from_state (λ s.
+    note (record { start = next_start s + s.writer.buffered; len = n })
+    >> set_buffered (s.writer.buffered + n))
+
+-- the bytes that fill the buffer, or what is left of the zone
+abbrev pub flush_at : Session → ℕ
+flush_at s = min (buffer_blocks s) (room_of s) * block_of s
 
 -- whole blocks go out when the buffer is full, or when they fill the zone
 abbrev pub flush_full : WriterAction NoValue
 flush_full = from_state (λ s.
-    when (s.writer.buffered == min (buffer_blocks s) (room_of s) * block_of s)
+    when (s.writer.buffered == flush_at s)
     (put_blocks (min (buffer_blocks s) (room_of s)) >> set_buffered 0))
 
 -- appends a byte to a file that isn't sparse
 abbrev pub append_plain : ℕ → WriterAction NoValue
-append_plain now = refuse_gone >> commit_full_zone now >> ensure_zone >> take_byte >> flush_full >> commit_full_zone now
+append_plain now = refuse_gone >> commit_full_zone now >> ensure_zone >> take_bytes 1 >> flush_full >> commit_full_zone now
 
 -- the rest of the buffer, filled up with zeros
 abbrev pub flush_rest : WriterAction NoValue
@@ -247,3 +251,12 @@ unfoldable pub close : ℕ → WriterAction Bool
 close now = from_state (λ s.
     if is_gone s then (release_held true >> closed >> done false)
     else (sync now >> commit_held now >> release_held true >> closed >> done true))
+
+-- ---- a writer that goes on in its zone
+
+-- the writer of a file that isn't sparse, which is there, in a zone that has room
+pub record HasZone (s : Session) : Type 0 where
+  pub plain : s.writer.sparse ≡ false
+  pub there : is_gone s ≡ false
+  pub zone : is_none s.writer.zone ≡ false
+  pub room : (room_of s == 0) ≡ false

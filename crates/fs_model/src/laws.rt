@@ -1,10 +1,11 @@
 // Laws of the definitions. Each is the contract of a function that does nothing, so that it
 // counts as proved; a proof cites it by a call.
 
-ghost use Rattle.std.specs.Prelude.{◌≡◌, ◌≢◌, ℕ, ◌+◌, List, ◌∷◌, ◌++◌, Result, Ok, Err, true};
-ghost use Rattle.fs_model.specs.Trace.{Action, Refines, each, repeat, on_part, ◌>>=◌ as ◌then◌};
+ghost use Rattle.std.specs.Prelude.{◌≡◌, ◌≢◌, ℕ, ◌+◌, ◌<◌, List, ◌∷◌, ◌++◌, Result, Ok, Err, Some, true};
+ghost use Rattle.fs_model.specs.FsState.{TableRow, row_of};
+ghost use Rattle.fs_model.specs.Trace.{Action, EndsAlike, Refines, each, repeat, on_part, ◌>>=◌ as ◌then◌};
 ghost use Rattle.fs_model.specs.LogSteps.{NoValue};
-ghost use Rattle.fs_model.specs.WriterSteps.{Session, append_bytes};
+ghost use Rattle.fs_model.specs.WriterSteps.{HasZone, Session, append_bytes, flush_at, take_bytes};
 ghost use Rattle.fs_model.specs.Migration.{Collecting, rounds, are_enough};
 ghost use Rattle.fs_model.specs.declared.error.FsError.{FsError};
 
@@ -55,6 +56,13 @@ pub fn appends_compose()
         → Refines (append_bytes (n + k) now) before answer after }
     ensures stops { (n k now : ℕ) (before after : Session) (e : FsError)
         → Refines (append_bytes (n + 1) now) before (Err e) after → Refines (append_bytes (n + 1 + k) now) before (Err e) after }
+{}
+
+/// Bytes that don't fill the buffer may be taken at once, as one extent.
+pub fn bytes_are_taken_at_once()
+    ensures { (n now : ℕ) (s : Session) (r : TableRow)
+        → HasZone s → row_of s.writer.id s.fs.rows ≡ Some r → s.writer.buffered + (n + 1) < flush_at s
+        → EndsAlike (append_bytes (n + 1) now) (take_bytes (n + 1)) s }
 {}
 
 /// Once the collector's rounds have come to an end, a greater bound on them changes nothing.

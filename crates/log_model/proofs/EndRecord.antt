@@ -23,11 +23,11 @@ ended_cases true x y c test h = (ok_is h, eqb-true (length c.rest) 0 test)
 ended_cases false x y c test h = cc
 
 -- what was read to the end of the bytes is the result
-ended_is : {A : Type 0} → (x y : A) (c : Cursor) → ended x c ≡ Ok y → (x ≡ y) × (length c.rest ≡ 0)
+pub ended_is : {A : Type 0} → (x y : A) (c : Cursor) → ended x c ≡ Ok y → (x ≡ y) × (length c.rest ≡ 0)
 ended_is x y c h = ended_cases (length c.rest == 0) x y c refl h
 
 -- a result that went on to an Ok has what each of its continuations gives
-last_of : {A B E : Type 0} → (r : Result A E) (f : A → Result B E) (y : B) (P : B → Type 0) → ((x : A) → f x ≡ Ok y → P y) → (r >>= f) ≡ Ok y → P y
+pub last_of : {A B E : Type 0} → (r : Result A E) (f : A → Result B E) (y : B) (P : B → Type 0) → ((x : A) → f x ≡ Ok y → P y) → (r >>= f) ≡ Ok y → P y
 last_of r f y P step h = let a = went_on r f y h in step a.0 a.2
 
 -- what a slice holds is an end only where what reads it gives one

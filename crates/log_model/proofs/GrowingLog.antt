@@ -77,7 +77,7 @@ snapshot_stays zone (s ∷ p ∷ ps) more (Torn block) Clean h ok = h
 snapshot_stays zone (s ∷ p ∷ ps) more (Torn block) (Torn other) h ok = h
 
 -- each log has P
-abbrev Each : (LogAt → Type 0) → List LogAt → Type 0
+abbrev pub Each : (LogAt → Type 0) → List LogAt → Type 0
 Each P [] = ⊤
 Each P (log ∷ logs) = P log × Each P logs
 
@@ -92,7 +92,7 @@ each_kept true P log logs h g = (h, g)
 each_kept false P log logs h g = g
 
 -- of the logs that count
-each_filter : (P : LogAt → Type 0) (logs : List LogAt) → Each P logs → Each P (filter counts logs)
+pub each_filter : (P : LogAt → Type 0) (logs : List LogAt) → Each P logs → Each P (filter counts logs)
 each_filter P [] h = h
 each_filter P (log ∷ logs) h = each_kept (counts log) P log (filter counts logs) h.0 (each_filter P logs h.1)
 
@@ -107,7 +107,7 @@ each_counts [] = tt
 each_counts (log ∷ logs) = counted_kept (counts log) log (filter counts logs) refl (each_counts logs)
 
 -- the newest of them has P
-newest_has : (P : LogAt → Type 0) (logs : List LogAt) (log : LogAt) → Each P logs → newest logs ≡ Some log → P log
+pub newest_has : (P : LogAt → Type 0) (logs : List LogAt) (log : LogAt) → Each P logs → newest logs ≡ Some log → P log
 newest_has P [] log h is = cc
 newest_has P (l ∷ ls) log h is =
     ⊎_elim (λ later. newest_has P ls log h.1 later.0) (λ this. subst P this.0 h.0) (newer_cases l (newest ls) log is)
@@ -165,7 +165,7 @@ newest_replaced (b ∷ before) after log it same is =
     (newer_cases b (newest (before ++ log ∷ after)) log is)
 
 -- a selected log has its snapshot
-selected_has_snapshot : (logs : List LogAt) (log : LogAt) → current_log logs ≡ Ok log → has_snapshot log ≡ Ok true
+pub selected_has_snapshot : (logs : List LogAt) (log : LogAt) → current_log logs ≡ Ok log → has_snapshot log ≡ Ok true
 selected_has_snapshot logs log is =
     let newest_is : newest (filter counts logs) ≡ Some log = undamaged_is (newest (filter counts logs)) log is in
     let counted : counts log ≡ true = newest_has (λ l. counts l ≡ true) (filter counts logs) log (each_counts logs) newest_is in
@@ -189,7 +189,7 @@ grown_is_current front back log grown more n fronts backs at longer ok is =
     selected_when_newest (newest (filter counts (front ++ it ∷ back))) it (ap newest (counted_stays front back it (ap decides still)) ∙ found) still
 
 -- the scan of a zone's log is the zone's
-own_scan : (g : Geometry) (zone : ℕ) (c : Scan) (payloads : List (ℕ × List ℕ)) (end : ScanEnd) (log : LogAt) → log_of_zone g zone c payloads end ≡ Ok (Some log) → log.scan ≡ c
+pub own_scan : (g : Geometry) (zone : ℕ) (c : Scan) (payloads : List (ℕ × List ℕ)) (end : ScanEnd) (log : LogAt) → log_of_zone g zone c payloads end ≡ Ok (Some log) → log.scan ≡ c
 own_scan g zone c payloads end log h =
     let again : log_of_zone g zone c (payloads ++ []) end ≡ Ok (Some (rescanned log c)) = begins_again g zone c c payloads [] end end log h in
     let both : Some log ≡ Some (rescanned log c) = ok_is (sym h ∙ (ap (λ ps. log_of_zone g zone c ps end) (sym (append-nil payloads)) ∙ again)) in

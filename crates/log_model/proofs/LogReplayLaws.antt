@@ -15,7 +15,7 @@ use Rattle.log_model.proofs.SelectedLog.{went_on, ok_is}
 use Rattle.log_model.proofs.EndRecord.{end_payload}
 
 -- what is decoded was read
-decoded_is : (at : ℕ) (read : Result Record DecodeFault) (r : Record) → placed at (decoded read) ≡ Ok r → read ≡ Ok r
+pub decoded_is : (at : ℕ) (read : Result Record DecodeFault) (r : Record) → placed at (decoded read) ≡ Ok r → read ≡ Ok r
 decoded_is at (Ok x) r h = ap (λ y. Ok y) (ok_is h)
 decoded_is at (Err fault) r h = cc
 

@@ -152,7 +152,7 @@ record_is_found block at payload rest h =
     (length_record block payload) (record_found block payload rest h)
 
 -- a record alone
-scan_record : (block at : ℕ) (payload : List ℕ) → IsRecordOf block payload
+pub scan_record : (block at : ℕ) (payload : List ℕ) → IsRecordOf block payload
     → scan_from block at (record_blocks block payload) ≡ record { payloads = (at, payload) ∷ []; end = Clean }
 unfolding scan_within
 scan_record block at payload h =
@@ -198,3 +198,9 @@ part_is_torn block k blocks payload h clean some less =
     clean_scan_goes_on block blocks (take k (record_blocks block payload)) (omega (arith, h.0)) clean
     ∙ (ap (followed_by (scan block blocks)) (scan_part k (blocks_of block (length payload)) block (length blocks) payload h some less refl)
     ∙ ap (λ ps. record { payloads = ps; end = Torn (length blocks) }) (append-nil (scan block blocks).payloads))
+
+-- the first blocks of a record, alone
+pub scan_first_blocks : (k block at : ℕ) (payload : List ℕ) → IsRecordOf block payload → 0 < k → k < blocks_of block (length payload)
+    → scan_from block at (take k (record_blocks block payload)) ≡ record { payloads = []; end = Torn at }
+unfolding record_blocks
+scan_first_blocks k block at payload h some less = scan_part k (blocks_of block (length payload)) block at payload h some less refl

@@ -14,7 +14,6 @@ use Rattle.log_model.proofs.TableLaws.{others_of, id_above, rise_cond, rise_take
 use Rattle.log_model.proofs.ReplayLaws.{bytes_eq_sym, file_has, all_from, all_of}
 use Rattle.log_model.proofs.SelectionLaws.{some_is}
 use Rattle.log_model.proofs.SelectedLog.{went_on, ok_is}
-use Rattle.log_model.proofs.SnapshotLaws.{sorted_same}
 
 -- one name, or none, in front of others
 kept_either : (b : Bool) (q : List ℕ → Bool) (n : List ℕ) (kept : List (List ℕ)) → q n ≡ false → list_any q kept ≡ false → list_any q (cond b (n ∷ kept) kept) ≡ false
@@ -90,9 +89,11 @@ origin_head : (kept here : Bool) (ns : List (List ℕ)) (id : ℕ) (f e : FileEn
     → (file_of id (take_names ns fs) ≡ Some e → IsTakenFrom ns id e fs) → file_of id (cond kept (without_names ns f ∷ take_names ns fs) (take_names ns fs)) ≡ Some e
     → IsTakenFrom ns id e (f ∷ fs)
 unfolding IsTakenFrom
-origin_head true true ns id f e fs test rise behind is =
-    (f, ap (λ b. cond b (Some f) (file_of id fs)) test,
-      some_is (sym (ap (λ b. cond b (Some (without_names ns f)) (file_of id (take_names ns fs))) test) ∙ is))
+origin_head true true ns id f e fs test rise behind is = (
+  f,
+  ap (λ b. cond b (Some f) (file_of id fs)) test,
+  some_is (sym (ap (λ b. cond b (Some (without_names ns f)) (file_of id (take_names ns fs))) test) ∙ is),
+)
 origin_head true false ns id f e fs test rise behind is =
     let rest = behind (sym (ap (λ b. cond b (Some (without_names ns f)) (file_of id (take_names ns fs))) test) ∙ is) in
     (rest.0, ap (λ b. cond b (Some f) (file_of id fs)) test ∙ rest.1, rest.2)
@@ -115,13 +116,13 @@ taken_table ns es table = record {
   ids = rise_taken 0 ns es table.ids;
   named = named_taken ns es;
   apart =
-    λ e is.
+      λ e is.
       let from : IsTakenFrom ns e.id e es = taken_origin 0 ns e.id e es table.ids is in
       let same : from.0.id ≡ e.id = ap (λ x. x.id) from.2 in
       let found : file_of from.0.id es ≡ Some from.0 = ap (λ id. file_of id es) same ∙ from.1 in
       all_taken (λ f. f.id ≢ from.0.id → shares_name from.0 f ≡ false) (λ f. f.id ≢ e.id → shares_name e f ≡ false) ns es
-        (λ f apart other. sym (ap (λ x. shares_name x (without_names ns f)) from.2) ∙ shares_less ns from.0 f (apart (λ is_same. other (is_same ∙ same))))
-        (table.apart from.0 found);
+      (λ f apart other. sym (ap (λ x. shares_name x (without_names ns f)) from.2) ∙ shares_less ns from.0 f (apart (λ is_same. other (is_same ∙ same))))
+      (table.apart from.0 found);
 }
 
 -- what holds of each entry of other ids
@@ -162,7 +163,7 @@ others_table id es table = record {
   ids = rise_others 0 id es table.ids;
   named = all_others (λ e. is_named e ≡ true) id es table.named;
   apart =
-    λ e is.
+      λ e is.
       all_others (λ f. f.id ≢ e.id → shares_name e f ≡ false) id es
       (table.apart e (others_origin 0 id e.id e es table.ids (file_has (λ f. f.id ≢ id) e.id (others_of id es) e (others_other id es) is) is));
 }
@@ -235,15 +236,15 @@ placed_table e es named table other apart = record {
   ids = rise_placed 0 e es table.ids other (omega arith);
   named = all_placed (λ x. is_named x ≡ true) e es named table.named;
   apart =
-    λ it is.
+      λ it is.
       ⊎_elim
       (λ same.
-        subst (λ x. AllByRecursion (λ f. f.id ≢ x.id → shares_name x f ≡ false) (with_entry e es)) (sym same)
-        (all_placed (λ f. f.id ≢ e.id → shares_name e f ≡ false) e es (λ self. absurd (self refl))
-          (all_from (λ f. shares_name e f ≡ false) (λ f. f.id ≢ e.id → shares_name e f ≡ false) es (λ f h away. h) apart)))
+      subst (λ x. AllByRecursion (λ f. f.id ≢ x.id → shares_name x f ≡ false) (with_entry e es)) (sym same)
+      (all_placed (λ f. f.id ≢ e.id → shares_name e f ≡ false) e es (λ self. absurd (self refl))
+      (all_from (λ f. shares_name e f ≡ false) (λ f. f.id ≢ e.id → shares_name e f ≡ false) es (λ f h away. h) apart)))
       (λ found.
-        all_placed (λ f. f.id ≢ it.id → shares_name it f ≡ false) e es
-        (λ away. among_sym e.names it.names (file_has (λ f. shares_name e f ≡ false) it.id es it apart found)) (table.apart it found))
+      all_placed (λ f. f.id ≢ it.id → shares_name it f ≡ false) e es
+      (λ away. among_sym e.names it.names (file_has (λ f. shares_name e f ≡ false) it.id es it apart found)) (table.apart it found))
       (placed_origin it.id e it es other is);
 }
 
@@ -271,14 +272,44 @@ grown_named : (o : Option FileEntry) (e : FileEntry) → is_named e ≡ true →
 grown_named None e h = h
 grown_named (Some f) e h = h
 
--- a snapshot of a table that breaks no rule is the table, in order
-snapshot_table : (files before next : Table) → IsTable files → after_record (Snapshot files) before ≡ Ok next → IsTable next
+-- what holds of each entry holds of each in order
+all_sorted : (P : FileEntry → Type 0) (es : Table) → AllByRecursion P es → AllByRecursion P (sorted es)
+all_sorted P [] h = tt
+all_sorted P (e ∷ es) h = all_placed P e (sorted es) h.0 (all_sorted P es h.1)
+
+-- what none passes fails of each
+all_fail : (q : FileEntry → Bool) (es : Table) → list_any q es ≡ false → AllByRecursion (λ f. q f ≡ false) es
+all_fail q [] h = tt
+all_fail q (e ∷ es) h = let parts = or_parts (q e) (list_any q es) h in (parts.0, all_fail q es parts.1)
+
+-- a table of no entries
+pub empty_table : IsTable []
+empty_table = record { ids = tt; named = tt; apart = λ e is. tt }
+
+-- entries with names, of which no two have one id or share a name, make a table
+sorted_table : (es : Table) → AllByRecursion (λ e. is_named e ≡ true) es → repeats_id es ≡ false → repeats_name es ≡ false → IsTable (sorted es)
+sorted_table [] named ids names = empty_table
+sorted_table (e ∷ es) named ids names =
+    let a = or_parts (list_any (λ f. f.id == e.id) es) (repeats_id es) ids in
+    let b = or_parts (list_any (shares_name e) es) (repeats_name es) names in
+    placed_table e (sorted es) named.0 (sorted_table es named.1 a.1 b.1)
+    (all_sorted (λ f. f.id ≢ e.id) es (all_from (λ f. (f.id == e.id) ≡ false) (λ f. f.id ≢ e.id) es (λ f other. eqb-false f.id e.id other) (all_fail (λ f. f.id == e.id) es a.0)))
+    (all_sorted (λ f. shares_name e f ≡ false) es (all_fail (shares_name e) es b.0))
+
+-- a rule that gives a table on isn't broken
+unbroken_test : (broken : Bool) (rule : ℕ) (es next : Table) → unless_broken broken rule es ≡ Ok next → broken ≡ false
+unbroken_test true rule es next h = cc
+unbroken_test false rule es next h = refl
+
+-- a snapshot that breaks no rule makes a table
+snapshot_table : (files before next : Table) → AllByRecursion (λ e. is_named e ≡ true) files → after_record (Snapshot files) before ≡ Ok next → IsTable next
 unfolding after_record
-snapshot_table files before next table h =
+snapshot_table files before next named h =
     let a = went_on (unless_broken (not (list_all has_right_size files)) 5 files) (λ x. unless_broken (repeats_id files) 6 files >>= (λ y. unless_broken (repeats_name files) 7 files >>= (λ z. Ok (sorted files)))) next h in
     let b = went_on (unless_broken (repeats_id files) 6 files) (λ y. unless_broken (repeats_name files) 7 files >>= (λ z. Ok (sorted files))) next a.2 in
     let c = went_on (unless_broken (repeats_name files) 7 files) (λ z. Ok (sorted files)) next b.2 in
-    subst IsTable (sym (sorted_same 0 files table.ids) ∙ ok_is c.2) table
+    subst IsTable (ok_is c.2)
+    (sorted_table files named (unbroken_test (repeats_id files) 6 files b.0 b.1) (unbroken_test (repeats_name files) 7 files c.0 c.1))
 
 pub record_keeps_table : RecordKeepsTable
 unfolding after_record

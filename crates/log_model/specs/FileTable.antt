@@ -26,7 +26,7 @@ abbrev pub with_entry : FileEntry → Table → Table
 with_entry e [] = e ∷ []
 with_entry e (f ∷ fs) = if nat_lt e.id f.id then e ∷ f ∷ fs else if e.id == f.id then e ∷ fs else f ∷ with_entry e fs
 
--- a name of a list
+-- the name is one of these
 abbrev pub is_among : List (List ℕ) → List ℕ → Bool
 is_among names name = list_any (λ n. bytes_eq n name) names
 
@@ -58,7 +58,7 @@ size_of extents = sum_by (λ e. e.len) extents
 abbrev pub has_right_size : FileEntry → Bool
 has_right_size e = e.size == size_of e.extents
 
--- an id comes twice; a name comes in two files
+-- an id comes twice
 abbrev pub repeats_id : Table → Bool
 repeats_id [] = false
 repeats_id (e ∷ es) = list_any (λ f. f.id == e.id) es || repeats_id es
@@ -94,19 +94,19 @@ delete_from (Some e) name es = unless_broken (not (is_among e.names name)) 4 (ta
 -- the table after a record, or the lowest rule that it breaks
 unfoldable pub after_record : Record → Table → Result Table DamageWhy
 after_record (Snapshot files) es = do
-  a ← unless_broken (not (list_all has_right_size files)) 5 files
-  b ← unless_broken (repeats_id files) 6 files
-  c ← unless_broken (repeats_name files) 7 files
+  sizes ← unless_broken (not (list_all has_right_size files)) 5 files
+  ids ← unless_broken (repeats_id files) 6 files
+  names ← unless_broken (repeats_name files) 7 files
   Ok (sorted files)
 after_record (Update e) es =
     unless_broken (not (has_right_size (grown (file_of e.id es) e))) 5 (set_entry (grown (file_of e.id es) e) es)
 after_record (Deletion id name) es = delete_from (file_of id es) name es
 after_record End es = Ok es
 after_record (Replace e) es = do
-  a ← unless_broken (not (is_some (file_of e.id es))) 3 es
+  known ← unless_broken (not (is_some (file_of e.id es))) 3 es
   unless_broken (not (has_right_size e)) 5 (set_entry e es)
 
--- the end of a log
+-- an end record
 abbrev pub is_end : Record → Bool
 is_end End = true
 is_end _ = false

@@ -6,7 +6,7 @@ use Rattle.record_model.specs.declared.types.Record.TheVariants.{Snapshot, Updat
 use Rattle.log_model.specs.LogScan.{blocks_of}
 use Rattle.log_model.specs.FileTable.{Table}
 
--- the blocks of a record, and of the superblock
+-- the blocks of a record
 abbrev pub blocks_of_record : ℕ → Record → ℕ
 blocks_of_record block r = blocks_of block (length (payload_of r))
 
@@ -18,12 +18,12 @@ superblock_blocks block = blocks_of block 512
 abbrev pub snapshot_blocks : ℕ → Table → ℕ
 snapshot_blocks block es = blocks_of_record block (Snapshot es)
 
--- the blocks of the greatest record of one file
+-- the blocks of the greatest update that has a whole entry
 abbrev pub greatest_record : ℕ → Table → ℕ
 greatest_record block [] = 0
 greatest_record block (e ∷ es) = max (blocks_of_record block (Update e)) (greatest_record block es)
 
--- the blocks of the greatest record of one whole file, and at least one
+-- the same, and at least one
 abbrev pub greatest_blocks : ℕ → Table → ℕ
 greatest_blocks block es = max 1 (greatest_record block es)
 

@@ -3,6 +3,9 @@ pub mod ScanLaws
 pub mod LogSelection
 pub mod SelectionLaws
 pub mod LogChangeLaws
+pub mod AppendLaws
+pub mod NewLogLaws
+pub mod MountedLogLaws
 pub mod FileTable
 pub mod Frames
 pub mod Mounted

@@ -28,14 +28,14 @@ padded_blocks n block payload = chunks block n (record_bytes payload ++ replicat
 unfoldable pub record_blocks : ℕ → List ℕ → List (List ℕ)
 record_blocks block payload = padded_blocks (blocks_of block (length payload)) block payload
 
--- what stands first in a list of blocks
+-- what stands first in some blocks: nothing, a record that needs more of them, a wrong one, or a whole one
 pub data Item : Type 0 where
   NoMore : Item
   Unfinished : Item
   Wrong : (len stored computed : ℕ) → Item
   Whole : (count : ℕ) → (payload : List ℕ) → Item
 
--- a record by its length and its checksum
+-- the record of a stated length, whose checksum should be this one
 abbrev pub item_of : ℕ → ℕ → List ℕ → ℕ → Item
 item_of count len bytes computed =
     if len == 0 then Wrong 0 (u32_at 0 bytes) computed
@@ -56,7 +56,7 @@ unfoldable pub first_item : ℕ → List (List ℕ) → Item
 first_item block [] = NoMore
 first_item block (b ∷ bs) = sized_item (blocks_of block (u32_at 4 b)) (u32_at 4 b) (b ∷ bs)
 
--- how a log ends
+-- how a log ends: with no rest, in a record that needs more blocks, or in a wrong one
 pub data ScanEnd : Type 0 where
   Clean : ScanEnd
   Torn : (block : ℕ) → ScanEnd
@@ -78,7 +78,7 @@ scan_after at Unfinished others = record { payloads = []; end = Torn at }
 scan_after at (Wrong len stored computed) others = record { payloads = []; end = Bad at len stored computed }
 scan_after at (Whole count payload) others = with_payload at payload (others count)
 
--- a record takes at least one block, so k bounds them
+-- the log in these blocks; a record takes at least one, so k bounds them
 unfoldable pub scan_within : ℕ → ℕ → ℕ → List (List ℕ) → Scan
 scan_within zero block at blocks = record { payloads = []; end = Clean }
 scan_within (suc k) block at blocks =
@@ -92,7 +92,7 @@ scan_from block at blocks = scan_within (length blocks) block at blocks
 unfoldable pub scan : ℕ → List (List ℕ) → Scan
 scan block blocks = scan_from block 0 blocks
 
--- whether one of the payloads is an end
+-- an end record is among the payloads
 abbrev pub has_end : List (ℕ × List ℕ) → Bool
 has_end payloads = list_any (λ p. bytes_eq p.1 (u32 4)) payloads
 

@@ -38,7 +38,7 @@ bad_record len stored computed = if len == 0 then why.NoLength else why.Sum stor
 abbrev pub fits_device : Geometry → Superblock → Bool
 fits_device g s = (s.block == g.block) && (s.zone_blocks == g.zone_blocks) && (s.zones == g.zones)
 
--- the log of a zone whose first payload is read so
+-- the log of a zone, by what its first payload is read as
 abbrev pub log_with : Geometry → ℕ → Scan → List ℕ → Result Superblock SbError → Result (Option LogAt) Refusal
 log_with g zone c payload (Err Magic) = Ok None
 log_with g zone c payload (Err (Version found)) = Err (Unsupported zone (u32_at 45 payload) (u32_at 49 payload))
@@ -56,7 +56,7 @@ log_of_zone g zone c [] (Bad block len stored computed) = damaged zone block (ba
 log_of_zone g zone c (p ∷ ps) end =
     if length p.1 == 512 then log_with g zone c p.1 (superblock_of p.1) else Ok None
 
--- one more log, if there is one
+-- the logs with one in front, if there is one
 abbrev pub add_log : Option LogAt → List LogAt → List LogAt
 add_log None logs = logs
 add_log (Some log) logs = log ∷ logs
@@ -96,7 +96,7 @@ snapshot_in zone end payloads = Ok false
 abbrev pub has_snapshot : LogAt → Result Bool Refusal
 has_snapshot log = snapshot_in log.zone log.scan.end log.scan.payloads
 
--- it is there, or the log is damaged
+-- a snapshot is there, or the log is damaged
 abbrev pub decides : Result Bool Refusal → Bool
 decides (Ok there) = there
 decides (Err why) = true
@@ -142,7 +142,7 @@ select_among found = do
 unfoldable pub select_log : Geometry → List Scan → Result (LogAt × ℕ) Refusal
 select_log g scans = logs_from g 0 scans >>= select_among
 
--- a log as it is chosen
+-- what is told of the log that counts
 abbrev pub chosen_of : LogAt × ℕ → Chosen
 chosen_of l = record {
   zone = l.0.zone;

@@ -23,7 +23,7 @@ is_written i x =
 abbrev pub share_a_byte : Extent → Extent → Bool
 share_a_byte x y = nat_lt x.start (y.start + y.len) && nat_lt y.start (x.start + x.len)
 
--- two of these have one
+-- two of these share a byte
 abbrev pub overlap : List Extent → Bool
 overlap [] = false
 overlap (x ∷ xs) = list_any (share_a_byte x) xs || overlap xs

@@ -17,3 +17,7 @@ AddedRecordIsReplayed = (payloads : List (ℕ × List ℕ)) (at : ℕ) (payload 
 -- the snapshot of a table gives the table
 abbrev pub SnapshotIsReplayed : Type 0
 SnapshotIsReplayed = (es before : Table) → IsTable es → AllByRecursion (λ e. has_right_size e ≡ true) es → after_record (Snapshot es) before ≡ Ok es
+
+-- a log that replays makes a table, whoever wrote it
+abbrev pub ReplayMakesTable : Type 0
+ReplayMakesTable = (payloads : List (ℕ × List ℕ)) (es : Table) → replay_log payloads ≡ Ok es → IsTable es

@@ -88,9 +88,9 @@ ReplaceKeepsTree = (i : Image) (es : Table) (e : FileEntry) (moved : List Extent
     → e.size ≡ size_of moved → bytes_of i moved ≡ bytes_of i e.extents
     → (next : Table) × (after_record (Replace (record e { extents = moved })) es ≡ Ok next) × (tree_of i next ≡ tree_of i es)
 
--- a record whose entries are those of a table, each with a name
+-- each entry of a record has a name, as every record that decodes has it
 abbrev pub IsNamedRecord : Record → Type 0
-IsNamedRecord (Snapshot files) = IsTable files
+IsNamedRecord (Snapshot files) = AllByRecursion (λ e. is_named e ≡ true) files
 IsNamedRecord (Update e) = is_named e ≡ true
 IsNamedRecord (Deletion id name) = ⊤
 IsNamedRecord End = ⊤

@@ -156,7 +156,7 @@ fields-same (suc k) fs c =
 
 -- ---- the entry
 
-named : (fs : List Field) → eqb (length (filter_map name_of fs)) 0 ≡ not (has_tag 9 fs)
+pub named : (fs : List Field) → eqb (length (filter_map name_of fs)) 0 ≡ not (has_tag 9 fs)
 named [] = refl
 named (Linked name ∷ fs) = ne_eqb _ _ (λ none. omega arith)
 named (Id n ∷ fs) = named fs

@@ -1,29 +1,26 @@
 -- A field that is read is spelled by the bytes that stand there, and one that was written is read again.
-use Rattle.std.proofs.Common.{◌≡◌, ◌≢◌, ℕ, zero, suc, ◌+◌, ◌-◌, ◌^◌, ◌<◌, ◌≤◌, ◌⊎◌, Bool, true, false, not, ◌&&◌, ◌||◌, cond, eqb, ltb, leb, List, [], ◌∷◌, ◌++◌, length, take, drop, Option, Some, None, Result, Ok, Err, refl, sym, ap, subst, ◌∙◌, append_assoc, arith, inl, inr}
-use Rattle.std.specs.Prelude.{IsTrue}
+use Rattle.std.proofs.Common.{◌≡◌, ◌≢◌, ℕ, zero, suc, ◌+◌, ◌-◌, ◌^◌, ◌<◌, ◌≤◌, ◌⊎◌, Bool, true, false, ◌&&◌, cond, eqb, ltb, leb, List, [], ◌∷◌, ◌++◌, length, take, drop, Option, Some, None, Result, Ok, refl, sym, ap, subst, ◌∙◌, append_assoc, arith, inl, inr}
 use Rattle.std.specs.Int.{Width, w32, w64, from_le_bytes}
 use Rattle.std.specs.List.{AllByRecursion, flat_map}
 use Rattle.std.specs.Str.{bytes_eq}
 use Rattle.std.proofs.lemmas.Slice.Eq.{bytes_eq-Decides}
-use Rattle.std.proofs.lemmas.Bool.{both_ways, false_from_ne_true, cases_Bool, eqb-true, eqb-false, ne_eqb, eq-eqb, lt-ltb, le-leb, ltb-true, leb-true, or_parts, or_from, and_parts}
-use Rattle.std.proofs.lemmas.List.{append-nil, take_at, drop_at, take-append-drop, length-append, length-take, length-drop}
-use Rattle.std.proofs.lemmas.List.Concat.{flat_map-cons}
+use Rattle.std.proofs.lemmas.Bool.{both_ways, false_from_ne_true, eqb-true, eqb-false, ne_eqb, lt-ltb, le-leb, ltb-true, leb-true, or_parts, or_from, and_parts}
+use Rattle.std.proofs.lemmas.List.{append-nil, take-append-drop, length-append, length-take, length-drop}
 use Rattle.record_model.specs.Name.{is_name}
-use Rattle.record_model.specs.Numbers.{u32, u64, varint}
+use Rattle.record_model.specs.Numbers.{u32, u64}
 use Rattle.record_model.specs.Encoding.{tag_of, kind_tag, slice, value_bytes, field_bytes}
-use Rattle.record_model.specs.FieldDecoding.{Cursor, Reads, number, once, single, ranged, extent_of, slice_at, piece_at, name_at, is_linked, has_tag, has_name, kind_of, value_at, known_value, field_at, fields_at, at_place, ◌>>=◌}
+use Rattle.record_model.specs.FieldDecoding.{Cursor, Reads, number, once, single, ranged, extent_of, slice_at, is_linked, has_tag, has_name, kind_of, value_at, known_value, field_at, fields_at, at_place, ◌>>=◌}
 use Rattle.record_model.specs.Grammar.{IsField, MayFollow, AreFields}
 use Rattle.record_model.specs.declared.types.Extent.{Extent}
 use Rattle.record_model.specs.declared.fault.DecodeFault.{DecodeFault}
-use Rattle.record_model.specs.declared.fault.Why.{Why}
 use Rattle.record_model.specs.declared.field.Field.{Field}
 use Rattle.record_model.specs.declared.field.Field.TheVariants.{Id, Size, Hint, Piece, Time, Active, Sparse, Linked}
 use Rattle.record_model.specs.declared.field.FieldKind.{FieldKind}
 use Rattle.record_model.specs.declared.field.FieldKind.TheVariants as kinds
 use Rattle.record_codec.proofs.Drafts.{IsFresh}
 use Rattle.record_codec.proofs.DraftedReading.{bind_ok, ok_is, field_new, piece_with, linked_with}
-use Rattle.record_codec.proofs.Numbers.{IsBytes, IsBytes-take, IsBytes-drop, Took, Took-then, wide32, wide64, IsWide, number_takes, number_again}
-use Rattle.record_codec.proofs.Slices.{IsSlice, slice_takes, slice_again}
+use Rattle.record_codec.proofs.Numbers.{IsBytes, IsBytes-take, IsBytes-drop, Took, Took-then, wide32, wide64, number_takes, number_again}
+use Rattle.record_codec.proofs.Slices.{slice_takes, slice_again}
 
 -- ---- a fresh field may follow, and the other way round
 
@@ -51,7 +48,7 @@ names_apart name (f ∷ fs) e =
     let tests = or_parts (is_linked name f) (has_name name fs) e in
     (unlinked name f tests.0, names_apart name fs tests.1)
 
-names_new : (name : List ℕ) (fs : List Field) → AllByRecursion (λ f. f ≢ Linked name) fs → has_name name fs ≡ false
+pub names_new : (name : List ℕ) (fs : List Field) → AllByRecursion (λ f. f ≢ Linked name) fs → has_name name fs ≡ false
 names_new name [] h = refl
 names_new name (f ∷ fs) h = or_from (is_linked name f) (has_name name fs) (unlike name f h.0) (names_new name fs h.1)
 

@@ -7,3 +7,6 @@ pub mod Numbers
 pub mod Slices
 pub mod FieldLaws
 pub mod RecordLaws
+pub mod Roundtrip
+pub mod Valid
+pub mod Lengths

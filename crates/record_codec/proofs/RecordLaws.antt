@@ -1,16 +1,16 @@
 -- A payload spells the record that is read from it, and a payload that spells a record is read as that record.
-use Rattle.std.proofs.Common.{◌≡◌, ◌≢◌, ℕ, zero, suc, ◌+◌, ◌-◌, ◌^◌, ◌/◌, ◌%◌, ◌<◌, ◌≤◌, ◌⊎◌, Bool, true, false, not, ◌&&◌, cond, eqb, ltb, leb, List, [], ◌∷◌, ◌++◌, length, Option, Some, None, Result, Ok, Err, refl, sym, ap, subst, ◌∙◌, append_assoc, arith, inl, inr}
-use Rattle.std.specs.Prelude.{IsTrue, IfOk}
+use Rattle.std.proofs.Common.{◌≡◌, ℕ, zero, suc, ◌+◌, ◌-◌, ◌^◌, ◌/◌, ◌%◌, ◌<◌, ◌≤◌, ◌⊎◌, Bool, true, false, cond, eqb, ltb, List, [], ◌∷◌, ◌++◌, length, Option, Some, None, Result, Ok, Err, refl, sym, ap, subst, ◌∙◌, append_assoc, arith, inl, inr}
+use Rattle.std.specs.Prelude.{IfOk}
 use Rattle.record_codec.specs.declared.error.DecodeError.{DecodeError}
 use Rattle.record_codec.specs.Outcome.{Gives}
 use Rattle.std.specs.Int.{w32, w64}
-use Rattle.std.specs.List.{AllByRecursion, flat_map, list_all}
-use Rattle.std.proofs.lemmas.Bool.{cases_Bool, cond_both, eqb-true, eq-eqb, ne_eqb, lt-ltb, ltb-true, and_parts, and_from}
+use Rattle.std.specs.List.{flat_map, list_all}
+use Rattle.std.proofs.lemmas.Bool.{cases_Bool, cond_both, eqb-true, ne_eqb, lt-ltb, ltb-true, and_parts}
 use Rattle.std.proofs.lemmas.List.{append-nil, nil_from_length, length-append}
 use Rattle.record_model.specs.Name.{is_name}
 use Rattle.record_model.specs.Numbers.{u32, u64, varint, varint_within}
 use Rattle.record_model.specs.Encoding.{slice, field_bytes, record_tag}
-use Rattle.record_model.specs.FieldDecoding.{Cursor, Reads, number, ranged, slice_at, has_tag, field_at, fields_at, at_place, ◌>>=◌}
+use Rattle.record_model.specs.FieldDecoding.{Cursor, number, ranged, slice_at, has_tag, field_at, fields_at, at_place, ◌>>=◌}
 use Rattle.record_model.specs.Decoding.{entry_of, missing_from, required_tags, complete, entry_at, inside_at, sliced_entry_at, entries_at, ended, deletion_at, record_kind_of, sliced, snapshot_at, update_at, replacement_at, record_with, record_of}
 use Rattle.record_model.specs.Grammar.{AreFields, IsEntry, AreEntries, Spells}
 use Rattle.record_model.specs.declared.types.FileEntry.{FileEntry}
@@ -23,7 +23,7 @@ use Rattle.record_model.specs.declared.field.RecordKind.{RecordKind}
 use Rattle.record_model.specs.declared.field.RecordKind.TheVariants as kinds
 use Rattle.record_codec.proofs.DraftedReading.{bind_ok, ok_is}
 use Rattle.record_codec.proofs.Numbers.{IsBytes, Took, wide32, wide64, number_takes, number_again}
-use Rattle.record_codec.proofs.Slices.{IsSlice, slice_takes, slice_again}
+use Rattle.record_codec.proofs.Slices.{slice_takes, slice_again}
 use Rattle.record_codec.proofs.Varints.{len_within}
 use Rattle.record_codec.proofs.FieldLaws.{field_takes, fields_again-within, field_len, fields_len, bind_at, ranged_true, name_short}
 

@@ -1,16 +1,14 @@
 -- Slices that are read are the bytes that stand there, and slices that were written are read again.
-use Rattle.std.proofs.Common.{◌≡◌, ℕ, zero, suc, ◌+◌, ◌*◌, ◌-◌, ◌^◌, ◌/◌, ◌%◌, ◌<◌, ◌≤◌, Bool, true, false, not, ◌||◌, cond, eqb, ltb, leb, List, [], ◌∷◌, ◌++◌, length, get_or, take, drop, Option, Some, None, Result, Ok, Err, refl, sym, ap, subst, ◌∙◌, append_assoc, arith, inl, inr, add-one}
+use Rattle.std.proofs.Common.{◌≡◌, ℕ, zero, suc, ◌+◌, ◌*◌, ◌-◌, ◌^◌, ◌/◌, ◌%◌, ◌<◌, ◌≤◌, false, not, ◌||◌, cond, eqb, ltb, leb, List, [], ◌∷◌, ◌++◌, length, take, drop, Option, Some, None, Ok, Err, refl, sym, ap, subst, ◌∙◌, append_assoc, arith, inl, inr, add-one}
 use Rattle.std.proofs.Math.Nat.{pow-suc}
-use Rattle.std.proofs.lemmas.Bool.{cases_lt, cases_Bool, ltb-false, lt-ltb, le-ltb, lt-leb, leb-false, eq-eqb, eqb-true, or_parts, not-false}
+use Rattle.std.proofs.lemmas.Bool.{cases_lt, ltb-false, lt-ltb, le-ltb, lt-leb, leb-false, eq-eqb, eqb-true, or_parts, not-false}
 use Rattle.std.proofs.lemmas.List.{take_at, drop_at, take-append-drop, length-append, length-take, length-drop, drop-drop}
 use Rattle.record_model.specs.Numbers.{varint, varint_within}
 use Rattle.record_model.specs.Encoding.{slice}
-use Rattle.record_model.specs.FieldDecoding.{Cursor, Reads, advance, varint_at, behind_byte, length_in, slice_at, ◌>>=◌}
-use Rattle.record_model.specs.declared.fault.Why.{Why}
+use Rattle.record_model.specs.FieldDecoding.{Cursor, Reads, advance, varint_at, behind_byte, length_in, slice_at}
 use Rattle.record_model.specs.declared.fault.Why.TheVariants.{Short, Range}
 use Rattle.record_codec.proofs.DraftedReading.{bind_ok}
 use Rattle.record_codec.proofs.Numbers.{IsBytes, IsBytes-drop, IsBytes-take, Took, guard_ok}
-use Rattle.record_codec.proofs.Varints.{len_within}
 
 abbrev some_of : ℕ → ℕ → Option (ℕ × ℕ)
 some_of n count = Some (n, count)

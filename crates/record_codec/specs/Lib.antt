@@ -1,5 +1,6 @@
 pub mod Outcome
 pub mod Place
+pub mod Length
 pub mod BoundedVarint
 pub mod Draft
 pub mod DraftedField

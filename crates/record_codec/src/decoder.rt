@@ -10,7 +10,7 @@ ghost use Rattle.record_model.specs.Decoding.{
   deletion_at,
   ended,
 };
-ghost use Rattle.record_model.specs.Grammar.{Spells};
+ghost use Rattle.record_model.specs.Grammar.{InGrammar, Spells};
 ghost use Rattle.record_model.specs.declared.types.Record.{Record};
 ghost use Rattle.record_codec.specs.Outcome.{Gives};
 ghost use Rattle.record_codec.specs.Place.{place};
@@ -40,6 +40,8 @@ pub fn decode(alloc: Global, payload: &[u8]) -> Result<Record, DecodeError>
     ensures exact { length payload.now < 2 ^ 32 → Gives result (record_of payload.now) }
     // What is read is spelled so, each byte of it.
     ensures found { IfOk result (Spells payload.now) }
+    // What is read has each value in its range, and can be written again.
+    ensures valid { IfOk result InGrammar }
     // What is spelled so is read, unless memory is wanting.
     ensures only { (r : Record) → length payload.now < 2 ^ 32 → Spells payload.now r
         → Gives result (Ok r) }

@@ -10,6 +10,8 @@ ghost use Rattle.record_model.specs.Encoding.{
   payload_of,
   slice,
 };
+ghost use Rattle.record_model.specs.Decoding.{record_of};
+ghost use Rattle.record_model.specs.Grammar.{InGrammar, Spells};
 ghost use Rattle.record_model.specs.declared.field.Field.TheVariants.{Piece, Linked};
 
 use crate::length::{deletion_len, encoded_len, entry_len, files_len};
@@ -17,10 +19,16 @@ use crate::varint::push_varint;
 use record_model::{Extent, FieldKind, FileEntry, Name, Payload, Record, RecordKind};
 use std::alloc::{AllocError, Global};
 
-/// The payload that spells the record.
+/// The payload of the record, in `encoded_len` bytes, which the length before a payload must be able
+/// to say. A record out of the grammar, such as a file without a name, is written all the same, but
+/// its payload isn't read as that record.
 pub fn encode(alloc: Global, value: &Record) -> Result<Payload, AllocError>
     requires { length (payload_of value.now) < 2 ^ 32 }
-    ensures { IfOk result (λ payload. payload ≡ payload_of value.now) }
+    ensures written { IfOk result (λ payload. payload ≡ payload_of value.now) }
+    // The payload of a record in the grammar spells it, and is read as it again.
+    ensures spelled { InGrammar value.now → IfOk result (λ payload. Spells payload value.now) }
+    ensures read_again { InGrammar value.now
+        → IfOk result (λ payload. record_of payload ≡ Ok value.now) }
 {
     let mut out = Vec::with_capacity(alloc, encoded_len(value) as usize)?;
     push_record(&mut out, value)?;

@@ -20,3 +20,6 @@ pub use record_model::{
     DecodeFault, Extent, Extents, FileEntry, Files, NO_ACTIVE, Name, NameError, Names, Payload,
     Record, Why,
 };
+
+#[cfg(test)]
+mod tests;

@@ -8,6 +8,7 @@ use Rattle.record_model.specs.declared.field.Field.{Field}
 use Rattle.record_model.specs.declared.field.Field.TheVariants.{Id, Size, Hint, Piece, Time, Active, Sparse, Linked}
 use Rattle.record_model.specs.FieldDecoding.{has_tag}
 use Rattle.record_model.specs.Decoding.{entry_of, required_tags}
+use Rattle.record_model.specs.declared.types.Extent.{Extent}
 use Rattle.record_model.specs.declared.types.FileEntry.{FileEntry}
 use Rattle.record_model.specs.declared.types.Record.{Record}
 use Rattle.record_model.specs.declared.types.Record.TheVariants.{Snapshot, Update, Deletion, End, Replace}
@@ -40,10 +41,6 @@ IsEntry bytes e =
     (fs : List Field) × (bytes ≡ flat_map field_bytes fs) × AreFields [] fs
     × IsTrue (list_all (λ tag. has_tag tag fs) required_tags) × (e ≡ entry_of fs)
 
--- a slice has a length below 2 ^ 32
-abbrev pub IsSliceOf : List ℕ → List ℕ → Type 0
-IsSliceOf bytes content = (length content < 2 ^ 32) × (bytes ≡ slice content)
-
 -- slices one after another, an entry each
 abbrev pub AreEntries : List ℕ → List FileEntry → Type 0
 AreEntries bytes [] = bytes ≡ []
@@ -57,3 +54,32 @@ Spells payload (Update e) = (body : List ℕ) × (length body < 2 ^ 32) × (payl
 Spells payload (Deletion id name) = (id < 2 ^ 64 - 1) × IsTrue (is_name name) × (payload ≡ u32 3 ++ slice (u64 id ++ slice name))
 Spells payload End = payload ≡ u32 4
 Spells payload (Replace e) = (body : List ℕ) × (length body < 2 ^ 32) × (payload ≡ u32 5 ++ slice body) × IsEntry body e
+
+-- an extent that has a byte
+abbrev pub IsExtent : Extent → Type 0
+IsExtent e = IsField (Piece e)
+
+-- no name stands twice
+abbrev pub AreApart : List (List ℕ) → Type 0
+AreApart [] = ⊤
+AreApart (name ∷ names) = AllByRecursion (λ other. other ≢ name) names × AreApart names
+
+-- an entry that can be written: each value in its range, a name at least, and none twice
+pub record IsWritable (e : FileEntry) : Type 0 where
+  pub id : e.id < 2 ^ 64 - 1
+  pub size : e.size < 2 ^ 64
+  pub hint : e.hint ≤ 5
+  pub time : e.time < 2 ^ 64
+  pub active : e.active < 2 ^ 64
+  pub extents : AllByRecursion IsExtent e.extents
+  pub names : AllByRecursion (λ name. IsTrue (is_name name)) e.names
+  pub named : 0 < length e.names
+  pub apart : AreApart e.names
+
+-- a record that some payload spells
+abbrev pub InGrammar : Record → Type 0
+InGrammar (Snapshot files) = AllByRecursion IsWritable files
+InGrammar (Update e) = IsWritable e
+InGrammar (Deletion id name) = (id < 2 ^ 64 - 1) × IsTrue (is_name name)
+InGrammar End = ⊤
+InGrammar (Replace e) = IsWritable e

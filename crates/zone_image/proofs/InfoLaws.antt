@@ -8,7 +8,7 @@ use Rattle.std.proofs.lemmas.List.Folds.{sum_by-replicate}
 use Rattle.zone_image.specs.declared.Geometry.{Geometry}
 use Rattle.zone_image.specs.declared.ZoneInfo.{ZoneInfo}
 use Rattle.zone_image.specs.Image.{Zone, Image, no_zone, zone_at, is_valid}
-use Rattle.zone_image.specs.Changes.{blocks_in, zone_appended, zone_finished, zone_synced, appended, finished, emptied, synced, blank}
+use Rattle.zone_image.specs.Changes.{change_at, blocks_in, zone_appended, zone_finished, zone_synced, appended, finished, emptied, synced, blank, with_content}
 use Rattle.zone_image.specs.Infos.{no_info, info_of, infos_of, info_at, is_active_info, active_zones, info_appended, info_finished, infos_appended, infos_finished, infos_emptied, infos_blank, IsPossibleInfo, IsPossible, IsZone, IsValidImage, IsImage}
 use Rattle.zone_image.proofs.BlockLaws.{length-blocks_in, All-blocks_in}
 use Rattle.zone_image.proofs.ImageLaws.{zone_in_is, length-change_at, map-change_at, All-change_at, count_by-change_at}
@@ -148,6 +148,26 @@ module _ (i : Image) (zone : ℕ) (bytes : List ℕ) where
       → ((info_at (infos_of i) zone).written ≡ 0 → active_zones (infos_of i) < i.geometry.active_limit) → IsValidImage (appended i zone (blocks_in i.geometry bytes))
   valid_written was in_range whole unsealed room spare =
       valid_appended i zone was in_range (blocks_in i.geometry bytes) (All-blocks_in i.geometry bytes whole) unsealed (omega (arith, length-blocks_in i.geometry bytes, room)) spare
+
+-- other content in a zone
+pub valid_content : (i : Image) (zone : ℕ) (blocks : List (List ℕ)) (kept : ℕ) (sealed : Bool) → IsValidImage i → zone < i.geometry.zones → All (λ b. length b ≡ i.geometry.block) blocks
+    → length blocks ≤ i.geometry.capacity → kept ≤ length blocks → (length blocks ≡ i.geometry.capacity → IsTrue sealed)
+    → active_zones (infos_of (with_content i zone blocks kept sealed)) ≤ i.geometry.active_limit → IsValidImage (with_content i zone blocks kept sealed)
+valid_content i zone blocks kept sealed is in_range whole room durable full active =
+    let there : zone < length i.zones = omega (arith, is.possible.count, length-map i.zones info_of, in_range) in
+    let told : zone < length (infos_of i) = omega (arith, is.possible.count, in_range) in
+    let info : ZoneInfo = record { written = length blocks; sealed = sealed } in
+    let infos : infos_of (with_content i zone blocks kept sealed) ≡ change_at zone (λ _. info) (infos_of i) =
+    map-change_at info_of zone (λ _. record { blocks = blocks; kept = kept; sealed = sealed }) (λ _. info) i.zones (λ z. refl) in
+    record {
+      possible = record {
+        valid = is.possible.valid;
+        count = ap length infos ∙ length-change_at zone (λ _. info) (infos_of i) ∙ is.possible.count;
+        each = subst (All (IsPossibleInfo i.geometry)) (sym infos) (All-change_at (IsPossibleInfo i.geometry) zone (λ _. info) (infos_of i) no_info told (λ p. record { room = room; full = full }) is.possible.each);
+        active = active;
+      };
+      zones = All-change_at (IsZone i.geometry) zone (λ _. record { blocks = blocks; kept = kept; sealed = sealed }) i.zones no_zone there (λ z. record { kept = durable; blocks = whole }) is.zones;
+    }
 
 pub valid_synced : (i : Image) → IsValidImage i → IsValidImage (synced i)
 valid_synced i was = record {

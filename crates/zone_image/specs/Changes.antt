@@ -1,5 +1,5 @@
 -- What the changing calls of a device make of its image.
-use Rattle.std.specs.Prelude.{ℕ, zero, suc, ◌/◌, true, ◌||◌, List, [], ◌∷◌, ◌++◌, length, take, drop, map, replicate, ◌==◌}
+use Rattle.std.specs.Prelude.{min, max, Bool, ℕ, zero, suc, ◌/◌, true, ◌||◌, List, [], ◌∷◌, ◌++◌, length, take, drop, map, replicate, ◌==◌}
 use Rattle.zone_image.specs.declared.Geometry.{Geometry}
 use Rattle.std.specs.List.{concat}
 use Rattle.zone_image.specs.Image.{Zone, Image, no_zone, zone_at}
@@ -55,6 +55,28 @@ emptied i zone = with_zone i zone (λ _. no_zone)
 -- after a sync
 abbrev pub synced : Image → Image
 synced i = record i { zones = map zone_synced i.zones }
+
+-- the first blocks of a zone that a crash leaves where it is asked to keep so many: never less than the durable ones
+abbrev pub blocks_left : Zone → ℕ → ℕ
+blocks_left z keep = min (length z.blocks) (max z.kept keep)
+
+-- a zone after a crash that keeps so many blocks
+abbrev pub zone_crashed : Zone → ℕ → Zone
+zone_crashed z keep = record { blocks = take (blocks_left z keep) z.blocks; kept = blocks_left z keep; sealed = z.sealed }
+
+-- zones after a crash, each with its number of blocks
+abbrev pub zones_crashed : List Zone → List ℕ → List Zone
+zones_crashed [] keep = []
+zones_crashed (z ∷ zs) [] = zone_crashed z 0 ∷ zones_crashed zs []
+zones_crashed (z ∷ zs) (k ∷ keep) = zone_crashed z k ∷ zones_crashed zs keep
+
+-- after a crash that keeps so many blocks of each zone
+abbrev pub crashed : Image → List ℕ → Image
+crashed i keep = record i { zones = zones_crashed i.zones keep }
+
+-- with other content in one zone
+abbrev pub with_content : Image → ℕ → List (List ℕ) → ℕ → Bool → Image
+with_content i zone blocks kept sealed = with_zone i zone (λ _. record { blocks = blocks; kept = kept; sealed = sealed })
 
 -- a new device: all zones are empty
 abbrev pub blank : Geometry → Image

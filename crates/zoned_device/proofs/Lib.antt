@@ -6,3 +6,4 @@ mod Leaves
 mod Memories
 mod MemCalls
 mod Records
+mod ZoneLists

@@ -1,15 +1,17 @@
 -- An image in memory when the buffer of one zone changes.
-use Rattle.std.proofs.Common.{◌≡◌, ℕ, ◌+◌, ◌*◌, ◌/◌, ◌%◌, ◌<◌, ◌≤◌, false, List, [], ◌∷◌, length, map, take, drop, get_or, set, refl, sym, ◌∙◌, ap, subst, arith}
+use Rattle.std.proofs.Common.{Bool, ◌≡◌, ℕ, ◌+◌, ◌*◌, ◌/◌, ◌%◌, ◌<◌, ◌≤◌, false, List, [], ◌∷◌, length, map, take, drop, get_or, set, refl, sym, ◌∙◌, ap, subst, arith}
+use Rattle.std.specs.Prelude.{IsTrue}
 use Rattle.std.specs.List.{All, concat}
 use Rattle.std.proofs.lemmas.List.{get_or-map, length-map, map-set}
 use Rattle.std.proofs.lemmas.List.Elements.{All-set, All-get_or, All-tail, All-map, All-weaker}
 use Rattle.zone_image.specs.declared.Geometry.{Geometry}
 use Rattle.zone_image.specs.Image.{Zone, no_zone, zone_at}
-use Rattle.zone_image.specs.Changes.{chunks, blocks_in, bytes_at, with_zone, zone_appended, zone_finished, zone_synced, synced}
+use Rattle.zone_image.specs.Changes.{zones_crashed, crashed, with_content, chunks, blocks_in, bytes_at, with_zone, zone_appended, zone_finished, zone_synced, synced}
 use Rattle.zone_image.specs.Infos.{no_info, info_of, infos_of, info_at, active_zones, IsValidImage}
-use Rattle.zone_image.proofs.BlockLaws.{length-chunks, concat_part}
+use Rattle.zone_image.proofs.BlockLaws.{length-chunks, concat_part, length-blocks_in, All-blocks_in}
 use Rattle.zone_image.proofs.ImageLaws.{zone_in_is, change_at_is}
-use Rattle.zone_image.proofs.InfoLaws.{valid_finished, valid_emptied, valid_written, valid_synced}
+use Rattle.zone_image.proofs.InfoLaws.{valid_finished, valid_emptied, valid_written, valid_content, valid_synced}
+use Rattle.zone_image.proofs.CrashLaws.{valid_crash, crashed_is_crash}
 use Rattle.zoned_device.specs.declared.zone_buffer.ZoneBuffer.{ZoneBuffer}
 use Rattle.zoned_device.specs.Memory.{zone_in, image_in, synced_buffer, IsBuffer, IsMemory}
 
@@ -74,6 +76,19 @@ module _ (g : Geometry) (buffers : List ZoneBuffer) (is : IsMemory g buffers) (z
         buffers_are = buffers_with c c_is;
       }
 
+  pub memory_content : (c : ZoneBuffer) (bytes : List ℕ) (kept : ℕ) (sealed : Bool) → length bytes % g.block ≡ 0 → IsBuffer g c
+      → zone_in g.block c ≡ record { blocks = blocks_in g bytes; kept = kept; sealed = sealed }
+      → length bytes / g.block ≤ g.capacity → kept ≤ length bytes / g.block → (length bytes / g.block ≡ g.capacity → IsTrue sealed)
+      → active_zones (infos_of (with_content (image_in g buffers) zone (blocks_in g bytes) kept sealed)) ≤ g.active_limit
+      → IsMemory g (set buffers zone c)
+  memory_content c bytes kept sealed whole c_is changed room durable full active =
+      let count = length-blocks_in g bytes in
+      record {
+        valid = subst IsValidImage (sym (with_buffer c (λ _. record { blocks = blocks_in g bytes; kept = kept; sealed = sealed }) changed))
+            (valid_content (image_in g buffers) zone (blocks_in g bytes) kept sealed is.valid in_range (All-blocks_in g bytes whole) (omega (arith, count, room)) (omega (arith, count, durable)) (λ all. full (sym count ∙ all)) active);
+        buffers_are = buffers_with c c_is;
+      }
+
   -- the bytes of some blocks
   pub bytes_are : (block count : ℕ) → block + count ≤ b.written → bytes_at (image_in g buffers) zone block count ≡ take (count * g.block) (drop (block * g.block) b.bytes.items)
   bytes_are block count within =
@@ -97,3 +112,13 @@ module _ (g : Geometry) where
     buffers_are = All-map (IsBuffer g) synced_buffer buffers
         (All-weaker (IsBuffer g) (λ b. IsBuffer g (synced_buffer b)) (λ b b_is. record { whole = b_is.whole; room = b_is.room; limit = b_is.limit; kept = omega arith }) buffers is.buffers_are);
   }
+
+-- zones after a crash
+pub memory_crashed : (g : Geometry) (buffers new : List ZoneBuffer) (keep : List ℕ) → IsMemory g buffers → All (IsBuffer g) new
+    → map (zone_in g.block) new ≡ zones_crashed (map (zone_in g.block) buffers) keep → IsMemory g new
+memory_crashed g buffers new keep is new_are left =
+    let image : image_in g new ≡ crashed (image_in g buffers) keep = ap (λ zs. record { geometry = g; zones = zs }) left in
+    record {
+      valid = subst IsValidImage (sym image) (valid_crash (image_in g buffers) (crashed (image_in g buffers) keep) is.valid (crashed_is_crash (image_in g buffers) keep is.valid));
+      buffers_are = new_are;
+    }

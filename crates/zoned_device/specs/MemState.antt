@@ -5,7 +5,7 @@ use Rattle.zone_image.specs.declared.ZoneInfo.{ZoneInfo}
 use Rattle.zone_image.specs.Image.{Image, IsCrash}
 use Rattle.zone_image.specs.Infos.{infos_of, IsValidImage}
 use Rattle.zoned_device.specs.CallState.{CallState, fault_of, begun, faulted}
-use Rattle.zoned_device.specs.Content.{Change, Content, LeftBy, AllBefore, content_after, calls_after, is_done}
+use Rattle.zoned_device.specs.Content.{Change, Content, LeftBy, AllBefore, content_after, calls_after, is_done, begun_with}
 
 -- the image with its record, none until one is made, and the counts of the calls
 pub record MemState : Type 0 where
@@ -87,3 +87,8 @@ succeeds s ch = done_in s.calls ch s.content
 -- after a call that changes no image
 abbrev pub called : MemState → MemState
 called s = record s { calls = if is_none (fault_of s.calls) then begun s.calls else faulted (begun s.calls) }
+
+-- the same image, with a record that begins with it
+abbrev pub copied : Option Content → Option Content
+copied None = None
+copied (Some c) = Some (begun_with c.standing)

@@ -1,7 +1,7 @@
 // An image in memory with a record of how it came to be, so that each image that it passed is known.
 ghost use Rattle.std.specs.Prelude.{◌≡◌, ◌+◌, ◌*◌, ◌/◌, ◌%◌, ◌<◌, ◌≤◌, false, length, nat_lt, nat_le, ◌&&◌, if◌then◌else◌, IsTrue, IfOk};
 ghost use Rattle.zone_image.specs.Image.{is_valid};
-ghost use Rattle.zone_image.specs.Changes.{blocks_in, blank};
+ghost use Rattle.zone_image.specs.Changes.{blocks_in, blank, crashed, with_content};
 ghost use Rattle.zone_image.specs.Infos.{info_at, infos_of, active_zones, IsValidImage};
 ghost use Rattle.zoned_device.specs.Content.{Append, Finish, Reset, Sync, has_room, with_change, begun_with, most_changes, most_bytes};
 
@@ -127,6 +127,44 @@ impl Record {
             kind,
         });
         true
+    }
+
+    /// Puts other content in a zone. The record begins anew.
+    pub(crate) fn put(&mut self, zone: u32, bytes: &[u8], kept: u32, sealed: bool)
+        requires is_zone { zone < self.old.standing.geometry.zones }
+        requires whole { length bytes.now % self.old.standing.geometry.block ≡ 0 }
+        requires room { length bytes.now / self.old.standing.geometry.block ≤ self.old.standing.geometry.capacity }
+        requires durable { kept ≤ length bytes.now / self.old.standing.geometry.block }
+        requires full { length bytes.now / self.old.standing.geometry.block ≡ self.old.standing.geometry.capacity → IsTrue sealed }
+        requires active { active_zones (infos_of (with_content self.old.standing zone (blocks_in self.old.standing.geometry bytes.now) kept sealed))
+            ≤ self.old.standing.geometry.active_limit }
+        ensures { self.new ≡ begun_with (with_content self.old.standing zone (blocks_in self.old.standing.geometry bytes.now) kept sealed) }
+    {
+        self.standing.put(zone, bytes, kept, sealed);
+        self.start.copy_from(&self.standing);
+        self.steps.clear();
+        self.bytes.clear();
+    }
+
+    /// What a crash leaves that keeps so many blocks of each zone. The record begins anew.
+    pub(crate) fn crash(&mut self, keep: &[u32])
+        requires { length keep.now ≡ self.old.standing.geometry.zones }
+        ensures { self.new ≡ begun_with (crashed self.old.standing keep.now) }
+    {
+        self.standing.crash(keep);
+        self.start.copy_from(&self.standing);
+        self.steps.clear();
+        self.bytes.clear();
+    }
+
+    /// The same image, with a record of its own that begins with it.
+    pub(crate) fn copy(&self, alloc: Global) -> Result<Self, AllocError>
+        ensures { IfOk result (λ r. r ≡ begun_with self.now.standing) }
+    {
+        let mut copy = Record::new(alloc, &self.standing.geometry())?;
+        copy.standing.copy_from(&self.standing);
+        copy.start.copy_from(&self.standing);
+        Ok(copy)
     }
 
     // Whether there is room for one more change that writes so many bytes.

@@ -1,7 +1,7 @@
 // A device in memory that tells everything and fails as it is told.
-ghost use Rattle.std.specs.Prelude.{◌≡◌, Some, None, IsTrue, IsSome, IfOk};
+ghost use Rattle.std.specs.Prelude.{◌/◌, ◌%◌, ◌<◌, ◌≤◌, length, [], ◌≡◌, Some, None, IsTrue, IsSome, IfOk};
 ghost use Rattle.zone_image.specs.Image.{is_valid, IsCrash};
-ghost use Rattle.zone_image.specs.Changes.{blank};
+ghost use Rattle.zone_image.specs.Changes.{blank, blocks_in, crashed, with_content};
 ghost use Rattle.zone_image.specs.Counts.{next_tick, HasCause};
 ghost use Rattle.zone_image.specs.Moments.{LeavesOnly};
 ghost use Rattle.zoned_device.specs.CallState.{no_calls, fault_of};
@@ -56,6 +56,86 @@ impl MemZones {
             record: None,
             calls: Calls::new(fails),
         }
+    }
+}
+
+impl MemZones {
+    ghost use Rattle.zone_image.specs.Infos.{infos_of, active_zones};
+    ghost use Rattle.zoned_device.specs.MemState.{image_of, geometry_of, copied, IsKnown};
+
+    /// Other calls are to fail; their numbers start again at 1.
+    pub fn set_fails(&mut self, fails: Vec<Failing>)
+        ensures { self.new ≡ record self.old { calls = record self.old.calls { fails = fails.items; number = 0 } } }
+    {
+        self.calls.set_fails(fails);
+    }
+
+    /// Puts other content in a zone: whole blocks, the first `kept` of them durable, and a seal. The record of moments
+    /// begins anew with the image after it.
+    pub fn put(&mut self, zone: u32, bytes: &[u8], kept: u32, sealed: bool)
+        requires is_known { IsKnown self.old }
+        requires is_zone { zone < (geometry_of self.old).zones }
+        requires whole { length bytes.now % (geometry_of self.old).block ≡ 0 }
+        requires room { length bytes.now / (geometry_of self.old).block ≤ (geometry_of self.old).capacity }
+        requires durable { kept ≤ length bytes.now / (geometry_of self.old).block }
+        requires full { length bytes.now / (geometry_of self.old).block ≡ (geometry_of self.old).capacity → IsTrue sealed }
+        requires active { active_zones (infos_of (with_content (image_of self.old) zone (blocks_in (geometry_of self.old) bytes.now) kept sealed))
+            ≤ (geometry_of self.old).active_limit }
+        ensures { self.new ≡ record self.old {
+          content = Some (begun_with (with_content (image_of self.old) zone (blocks_in (geometry_of self.old) bytes.now) kept sealed));
+        } }
+    {
+        match &mut self.record {
+            Some(record) => record.put(zone, bytes, kept, sealed),
+            None => unreachable!(),
+        }
+    }
+
+    /// A device with the same image, or with none. Its record of moments begins with that image, no call of it is to
+    /// fail, and its tick and its counts are 0.
+    pub fn copy(&self) -> Result<Self, AllocError>
+        ensures { IfOk result (λ m. m ≡ record { content = copied self.now.content; calls = no_calls [] }) }
+    {
+        let record = match &self.record {
+            Some(record) => Some(record.copy(self.alloc)?),
+            None => None,
+        };
+        Ok(MemZones {
+            alloc: self.alloc,
+            record,
+            calls: Calls::new(Vec::new(self.alloc)),
+        })
+    }
+
+    /// What a crash leaves: of zone i the least of its written blocks and the greater of its durable ones and
+    /// `keep[i]`. The record of moments begins with that image, no call is to fail, and the tick and the counts are 0.
+    pub fn crash(self, keep: &[u32]) -> Self
+        requires is_known { IsKnown self }
+        requires numbers { length keep.now ≡ (geometry_of self).zones }
+        ensures left { result ≡ record { content = Some (begun_with (crashed (image_of self) keep.now)); calls = no_calls [] } }
+        ensures crash { IsCrash (image_of self) (image_of result) }
+    {
+        let MemZones {
+            alloc,
+            mut record,
+            calls: _,
+        } = self;
+        match &mut record {
+            Some(record) => record.crash(keep),
+            None => unreachable!(),
+        }
+        MemZones {
+            alloc,
+            record,
+            calls: Calls::new(Vec::new(alloc)),
+        }
+    }
+
+    // From now on so many calls pass, or all.
+    pub(crate) fn set_passes(&mut self, passes: Option<u64>)
+        ensures { self.new ≡ record self.old { calls = record self.old.calls { passes = passes } } }
+    {
+        self.calls.set_passes(passes);
     }
 }
 

@@ -1,7 +1,7 @@
 // An image in memory, all of it taken when the image is made.
 ghost use Rattle.std.specs.Prelude.{◌≡◌, ◌+◌, ◌/◌, ◌%◌, ◌<◌, ◌≤◌, false, length, IsTrue, IfOk};
 ghost use Rattle.zone_image.specs.Image.{is_valid};
-ghost use Rattle.zone_image.specs.Changes.{blocks_in, bytes_at, appended, finished, emptied, synced, blank};
+ghost use Rattle.zone_image.specs.Changes.{blocks_in, bytes_at, appended, finished, emptied, synced, blank, crashed, with_content};
 ghost use Rattle.zone_image.specs.Infos.{info_at, infos_of, active_zones, IsValidImage};
 
 use crate::zone_buffer::{self, ZoneBuffer};
@@ -106,5 +106,36 @@ impl Memory {
         ensures { self.new ≡ synced self.old }
     {
         zone_buffer::sync(&mut self.zones);
+    }
+
+    /// Puts other content in a zone.
+    pub(crate) fn put(&mut self, zone: u32, bytes: &[u8], kept: u32, sealed: bool)
+        requires is_zone { zone < self.old.geometry.zones }
+        requires whole { length bytes.now % self.old.geometry.block ≡ 0 }
+        requires room { length bytes.now / self.old.geometry.block ≤ self.old.geometry.capacity }
+        requires durable { kept ≤ length bytes.now / self.old.geometry.block }
+        requires full { length bytes.now / self.old.geometry.block ≡ self.old.geometry.capacity → IsTrue sealed }
+        requires active { active_zones (infos_of (with_content self.old zone (blocks_in self.old.geometry bytes.now) kept sealed))
+            ≤ self.old.geometry.active_limit }
+        ensures { self.new ≡ with_content self.old zone (blocks_in self.old.geometry bytes.now) kept sealed }
+    {
+        let buffer = &mut self.zones[zone as usize];
+        buffer.put(&self.geometry, bytes, kept, sealed);
+    }
+
+    /// Takes over the content of another image of this geometry.
+    pub(crate) fn copy_from(&mut self, other: &Memory)
+        requires { other.now.geometry ≡ self.old.geometry }
+        ensures { self.new ≡ other.now }
+    {
+        zone_buffer::copy_zones(&self.geometry, &mut self.zones, &other.zones);
+    }
+
+    /// What a crash leaves that keeps so many blocks of each zone.
+    pub(crate) fn crash(&mut self, keep: &[u32])
+        requires { length keep.now ≡ self.old.geometry.zones }
+        ensures { self.new ≡ crashed self.old keep.now }
+    {
+        zone_buffer::crash_zones(&self.geometry, &mut self.zones, keep);
     }
 }

@@ -1,7 +1,7 @@
 // A zone in memory. Its memory is taken when it is made.
 ghost use Rattle.std.specs.Prelude.{map, replicate, All, ◌≡◌, ◌+◌, ◌*◌, ◌/◌, ◌%◌, ◌≤◌, length, take, drop, IsTrue, IfOk};
 ghost use Rattle.zone_image.specs.Image.{no_zone, is_valid};
-ghost use Rattle.zone_image.specs.Changes.{blocks_in, zone_appended};
+ghost use Rattle.zone_image.specs.Changes.{blocks_in, zone_appended, zone_crashed, zones_crashed};
 ghost use Rattle.zoned_device.specs.Memory.{zone_in, synced_buffer, IsBuffer};
 
 use std::alloc::{AllocError, Global};
@@ -59,6 +59,53 @@ impl ZoneBuffer {
         self.sealed = false;
     }
 
+    /// Puts other content in place of what is there.
+    pub(crate) fn put(&mut self, geometry: &Geometry, bytes: &[u8], kept: u32, sealed: bool)
+        requires valid { IsTrue (is_valid geometry.now) }
+        requires buffer { IsBuffer geometry.now self.old }
+        requires whole { length bytes.now % geometry.now.block ≡ 0 }
+        requires room { length bytes.now / geometry.now.block ≤ geometry.now.capacity }
+        requires durable { kept ≤ length bytes.now / geometry.now.block }
+        ensures buffer { IsBuffer geometry.now self.new }
+        ensures zone { zone_in geometry.now.block self.new
+            ≡ record { blocks = blocks_in geometry.now bytes.now; kept = kept; sealed = sealed } }
+    {
+        let count = bytes.len() / geometry.block as usize;
+        self.bytes.clear();
+        let _ = self.bytes.extend_from_slice(bytes);
+        self.written = count as u32;
+        self.kept = kept;
+        self.sealed = sealed;
+    }
+
+    /// Takes over the content of another buffer.
+    pub(crate) fn copy_from(&mut self, geometry: &Geometry, other: &ZoneBuffer)
+        requires valid { IsTrue (is_valid geometry.now) }
+        requires buffer { IsBuffer geometry.now self.old }
+        requires other { IsBuffer geometry.now other.now }
+        ensures buffer { IsBuffer geometry.now self.new }
+        ensures zone { zone_in geometry.now.block self.new ≡ zone_in geometry.now.block other.now }
+    {
+        self.bytes.clear();
+        let _ = self.bytes.extend_from_slice(&other.bytes);
+        self.written = other.written;
+        self.kept = other.kept;
+        self.sealed = other.sealed;
+    }
+
+    /// What a crash leaves that keeps so many blocks, and no fewer than the durable ones.
+    pub(crate) fn crash(&mut self, geometry: &Geometry, keep: u32)
+        requires valid { IsTrue (is_valid geometry.now) }
+        requires buffer { IsBuffer geometry.now self.old }
+        ensures buffer { IsBuffer geometry.now self.new }
+        ensures zone { zone_in geometry.now.block self.new ≡ zone_crashed (zone_in geometry.now.block self.old) keep }
+    {
+        let left = self.written.min(self.kept.max(keep));
+        self.bytes.truncate(left as usize * geometry.block as usize);
+        self.written = left;
+        self.kept = left;
+    }
+
     /// Reads whole blocks from this block on.
     pub(crate) fn read(&self, geometry: &Geometry, block: u32, out: &mut [u8])
         requires buffer { IsBuffer geometry.now self.now }
@@ -93,5 +140,35 @@ pub(crate) fn sync(zones: &mut [ZoneBuffer])
 {
     for buffer in zones.iter_mut() {
         buffer.kept = buffer.written;
+    }
+}
+
+/// Takes over the content of other zones, one by one.
+pub(crate) fn copy_zones(geometry: &Geometry, zones: &mut [ZoneBuffer], others: &[ZoneBuffer])
+    requires valid { IsTrue (is_valid geometry.now) }
+    requires buffers { All (IsBuffer geometry.now) zones.old }
+    requires others { All (IsBuffer geometry.now) others.now }
+    requires count { length others.now ≡ length zones.old }
+    ensures buffers { All (IsBuffer geometry.now) zones.new }
+    ensures same { map (zone_in geometry.now.block) zones.new ≡ map (zone_in geometry.now.block) others.now }
+{
+    for i in 0..zones.len() {
+        let zone = &mut zones[i];
+        let other = &others[i];
+        zone.copy_from(geometry, other);
+    }
+}
+
+/// What a crash leaves of each zone that keeps so many of its blocks.
+pub(crate) fn crash_zones(geometry: &Geometry, zones: &mut [ZoneBuffer], keep: &[u32])
+    requires valid { IsTrue (is_valid geometry.now) }
+    requires buffers { All (IsBuffer geometry.now) zones.old }
+    requires count { length keep.now ≡ length zones.old }
+    ensures buffers { All (IsBuffer geometry.now) zones.new }
+    ensures left { map (zone_in geometry.now.block) zones.new ≡ zones_crashed (map (zone_in geometry.now.block) zones.old) keep.now }
+{
+    for i in 0..zones.len() {
+        let zone = &mut zones[i];
+        zone.crash(geometry, keep[i]);
     }
 }

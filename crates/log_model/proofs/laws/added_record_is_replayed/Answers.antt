@@ -1,5 +1,0 @@
-use Rattle.log_model.proofs.LogReplayLaws.{added_record_is_replayed}
-use Rattle.log_model.proofs.laws.added_record_is_replayed.Goals as goal
-
-pub returns : goal.returns
-returns c = added_record_is_replayed

@@ -1,5 +1,0 @@
-use Rattle.log_model.proofs.LogChangeLaws.{complete_log_is_selected}
-use Rattle.log_model.proofs.laws.complete_log_is_selected.Goals as goal
-
-pub returns : goal.returns
-returns c = complete_log_is_selected

@@ -1,5 +1,0 @@
-use Rattle.log_model.proofs.HeadroomLaws.{fewer_extents_need_no_more}
-use Rattle.log_model.proofs.laws.fewer_extents_need_no_more.Goals as goal
-
-pub returns : goal.returns
-returns c = fewer_extents_need_no_more

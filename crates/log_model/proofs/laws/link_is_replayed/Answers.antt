@@ -1,5 +1,0 @@
-use Rattle.log_model.proofs.ReplayLaws.{link_is_replayed}
-use Rattle.log_model.proofs.laws.link_is_replayed.Goals as goal
-
-pub returns : goal.returns
-returns c = link_is_replayed

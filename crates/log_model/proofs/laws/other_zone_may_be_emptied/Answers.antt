@@ -1,5 +1,0 @@
-use Rattle.log_model.proofs.LogChangeLaws.{other_zone_may_be_emptied}
-use Rattle.log_model.proofs.laws.other_zone_may_be_emptied.Goals as goal
-
-pub returns : goal.returns
-returns c = other_zone_may_be_emptied

@@ -1,5 +1,0 @@
-use Rattle.log_model.proofs.HeadroomLaws.{record_fits_table}
-use Rattle.log_model.proofs.laws.record_fits_table.Goals as goal
-
-pub returns : goal.returns
-returns c = record_fits_table

@@ -1,5 +1,0 @@
-use Rattle.log_model.proofs.TableKept.{record_keeps_table}
-use Rattle.log_model.proofs.laws.record_keeps_table.Goals as goal
-
-pub returns : goal.returns
-returns c = record_keeps_table

@@ -1,5 +1,0 @@
-use Rattle.log_model.proofs.ReplayLaws.{rename_is_replayed}
-use Rattle.log_model.proofs.laws.rename_is_replayed.Goals as goal
-
-pub returns : goal.returns
-returns c = rename_is_replayed

@@ -1,5 +1,0 @@
-use Rattle.log_model.proofs.ReplayLaws.{replace_keeps_tree}
-use Rattle.log_model.proofs.laws.replace_keeps_tree.Goals as goal
-
-pub returns : goal.returns
-returns c = replace_keeps_tree

@@ -1,0 +1,12 @@
+use Rattle.std.proofs.Common.{◌≡◌, ◌++◌, length, map, take, drop}
+use Rattle.std.specs.List.{All}
+use Rattle.zoned_device.specs.Memory.{zone_in, IsBuffer}
+use Rattle.zoned_device.proofs.zone_buffer.copy_zones.Given as goal
+
+-- the first zones are copied
+abbrev pub invariant-loop-i : goal.invariant-loop-i
+invariant-loop-i l = record {
+  buffers : All (IsBuffer l.geometry) l.zones;
+  done : map (zone_in l.geometry.block) l.zones
+      ≡ take l.i (map (zone_in l.geometry.block) l.others) ++ drop l.i (map (zone_in l.geometry.block) l.initial.zones);
+}
