@@ -1,9 +1,10 @@
 -- A reader of the records of a zone, one by one.
-use Rattle.std.specs.Prelude.{◌≡◌, ℕ, ◌+◌, ◌≤◌, ⊤, List, length, drop, Option, Some, None}
-use Rattle.log_model.specs.LogScan.{Item, ScanEnd, blocks_of, first_item}
+use Rattle.std.specs.Prelude.{◌≡◌, ℕ, ◌+◌, ◌≤◌, ⊤, List, [], length, drop, Option, Some, None}
+use Rattle.log_model.specs.LogScan.{Item, Scan, ScanEnd, blocks_of, first_item, scan_from, with_payload}
 use Rattle.log_model.specs.LogScan.Item.{NoMore, Unfinished, Wrong, Whole}
 use Rattle.log_model.specs.LogScan.ScanEnd.{Clean, Torn, Bad}
 use Rattle.meta_log.specs.Ends.{scan_end}
+use Rattle.meta_log.specs.declared.item.LogEnd.TheVariants as log_end
 use Rattle.meta_log.specs.declared.item.Found.{Found}
 use Rattle.meta_log.specs.declared.item.Found.TheVariants as found
 use Rattle.meta_log.specs.declared.item.LogItem.{LogItem}
@@ -41,10 +42,18 @@ abbrev pub unless_ended : Option ScanEnd → LogItem → LogItem
 unless_ended None item = item
 unless_ended (Some end) item = end_item end
 
--- what was found at a block, as an item
-abbrev pub found_item : ℕ → Found → LogItem
-found_item at (found.Record count bytes) = log_item.Payload at bytes
-found_item at (found.End end) = end_item (scan_end end)
+-- what was found, as the first record of the blocks that are left
+abbrev pub first_of : Found → Item
+first_of (found.Record count bytes) = Whole count bytes
+first_of (found.End log_end.Clean) = NoMore
+first_of (found.End (log_end.Torn block)) = Unfinished
+first_of (found.End (log_end.Bad block len stored computed)) = Wrong len stored computed
+
+-- an end names the block at which it was found
+abbrev pub IsPlaced : ℕ → Found → Type 0
+IsPlaced at (found.End (log_end.Torn block)) = block ≡ at
+IsPlaced at (found.End (log_end.Bad block len stored computed)) = block ≡ at
+IsPlaced at _ = ⊤
 
 -- a record of this length and of so many blocks, or an end
 abbrev pub IsRecordOf : ℕ → ℕ → Found → Type 0
@@ -56,9 +65,25 @@ abbrev pub IsCounted : ReaderState → Found → Type 0
 IsCounted s (found.Record count bytes) = (count ≡ blocks_of s.block_size (length bytes)) × (s.next + count ≤ s.written)
 IsCounted s (found.End end) = ⊤
 
+-- nothing but the end that was found before, or this
+abbrev pub unless_over : Option ScanEnd → Scan → Scan
+unless_over None rest = rest
+unless_over (Some end) rest = record { payloads = []; end = end }
+
 -- what a reader finds in these blocks of its zone
 abbrev pub next_item : ReaderState → List (List ℕ) → LogItem
 next_item s blocks = unless_ended s.ended (item_at s.next (first_item s.block_size (drop s.next blocks)))
+
+-- what is left to scan of these blocks of a zone
+abbrev pub scan_left : ReaderState → List (List ℕ) → Scan
+scan_left s blocks = unless_over s.ended (scan_from s.block_size s.next (drop s.next blocks))
+
+-- an item before what is left to scan
+abbrev pub with_item : LogItem → Scan → Scan
+with_item (log_item.Payload block bytes) rest = with_payload block bytes rest
+with_item log_item.Clean rest = record { payloads = []; end = Clean }
+with_item (log_item.Torn block) rest = record { payloads = []; end = Torn block }
+with_item (log_item.Bad block len stored computed) rest = record { payloads = []; end = Bad block len stored computed }
 
 -- the reader behind an item
 abbrev pub reader_after : ReaderState → LogItem → ReaderState

@@ -6,7 +6,7 @@ ghost use Rattle.zone_image.specs.Infos.{info_at};
 ghost use Rattle.zone_image.specs.Reads.{OnlyReads};
 ghost use Rattle.log_model.specs.LogScan.{blocks_of, first_item, whole_item};
 ghost use Rattle.meta_log.specs.Ends.{scan_end};
-ghost use Rattle.meta_log.specs.Reader.{IsCounted, IsRecordOf, IsSameLog, end_item, found_item, item_at, next_item, reader_after};
+ghost use Rattle.meta_log.specs.Reader.{IsCounted, IsPlaced, IsRecordOf, IsSameLog, end_item, first_of, next_item, reader_after, scan_left, with_item};
 
 use crate::error::LogError;
 use crate::item::{Found, LogEnd, LogItem};
@@ -63,6 +63,8 @@ impl LogReader {
         requires same_block { self.old.block_size ≡ (D.geometry dev.old).block }
         requires same_written { self.old.written ≡ (info_at (D.infos dev.old) self.old.zone).written }
         ensures item { IfOk result (λ item. D.tells → item ≡ next_item self.old (zone_at (D.image dev.old) self.old.zone).blocks) }
+        ensures scan { IfOk result (λ item. D.tells → scan_left self.old (zone_at (D.image dev.old) self.old.zone).blocks
+            ≡ with_item item (scan_left self.new (zone_at (D.image dev.old) self.old.zone).blocks)) }
         ensures after { IfOk result (λ item. self.new ≡ reader_after self.old item) }
         ensures err { OnErr result (self.new ≡ self.old) }
         ensures same { IsSameLog self.old self.new }
@@ -91,8 +93,9 @@ impl LogReader {
         requires is_zone { self.now.zone < (D.geometry dev.old).zones }
         requires same_block { self.now.block_size ≡ (D.geometry dev.old).block }
         requires same_written { self.now.written ≡ (info_at (D.infos dev.old) self.now.zone).written }
-        ensures item { IfOk result (λ found. D.tells → found_item self.now.next found
-            ≡ item_at self.now.next (first_item self.now.block_size (drop self.now.next (zone_at (D.image dev.old) self.now.zone).blocks))) }
+        ensures first { IfOk result (λ found. D.tells
+            → first_item self.now.block_size (drop self.now.next (zone_at (D.image dev.old) self.now.zone).blocks) ≡ first_of found) }
+        ensures placed { IfOk result (IsPlaced self.now.next) }
         ensures counted { IfOk result (IsCounted self.now) }
         ensures device { OnlyReads D.known D.geometry D.infos D.tells D.image D.tick D.since D.failed_changes dev.old dev.new }
         ensures cause { HasCause (D.faults dev.old) (D.faults dev.new) (IsErrOf result LogError.DevFault) }
@@ -123,7 +126,8 @@ impl LogReader {
 // What a record that is all there turns out to be.
 fn judged(alloc: Global, block: u32, len: u32, count: u32, record: &[u8]) -> Result<Found, LogError>
     requires { HEADER + len ≤ length record.now }
-    ensures item { IfOk result (λ found. found_item block found ≡ item_at block (whole_item count len record.now)) }
+    ensures first { IfOk result (λ found. whole_item count len record.now ≡ first_of found) }
+    ensures placed { IfOk result (IsPlaced block) }
     ensures counted { IfOk result (IsRecordOf len count) }
     ensures memory { OnErr result (result ≡ Err LogError.NoMemory) }
 {

@@ -1,7 +1,8 @@
 -- Whether something stands twice in a list.
 use Rattle.std.specs.Prelude.{Bool, false, ◌||◌, List, [], ◌∷◌, ◌++◌}
 use Rattle.std.specs.List.{list_any}
-use Rattle.std.specs.Ordering.{Ordering, is_eq}
+use Rattle.std.specs.declared.cmp.Ordering.{Ordering}
+use Rattle.std.specs.Ordering.{is_eq}
 
 -- an item equals one before it, or one of those seen
 abbrev pub repeats_after : {A : Type 0} → (A → A → Ordering) → List A → List A → Bool

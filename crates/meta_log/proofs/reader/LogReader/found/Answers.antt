@@ -8,13 +8,13 @@ use Rattle.zone_image.specs.Infos.{info_at}
 use Rattle.zone_image.proofs.ReadLaws.{reads_on}
 use Rattle.superblock_core.specs.Superblock.{u32_at}
 use Rattle.log_model.specs.LogScan.{blocks_of, first_item}
-use Rattle.meta_log.specs.declared.item.LogItem.TheVariants as log_item
-use Rattle.meta_log.specs.Reader.{found_item, item_at}
+use Rattle.log_model.specs.LogScan.Item.{NoMore, Unfinished}
+use Rattle.meta_log.specs.Reader.{first_of}
 use Rattle.meta_log.proofs.Reading.{block_positive, blocks_positive, joined, none_left, one_and_rest, unfinished, whole, written_is}
 use Rattle.meta_log.proofs.reader.LogReader.found.Goals as goal
 
-pub returns-then-self-clause-item : goal.returns-then-self-clause-item
-returns-then-self-clause-item g c = λ told.
+pub returns-then-self-clause-first : goal.returns-then-self-clause-first
+returns-then-self-clause-first g c = λ told.
     let D = g.D.ZonedDevice in
     let dev = c.args.dev.now in
     let s = c.self.inside in
@@ -22,11 +22,11 @@ returns-then-self-clause-item g c = λ told.
     let written : s.written ≡ length (zone_at (D.image dev) s.zone).blocks =
     subst (λ r. r.written ≡ (info_at (D.infos dev) r.zone).written) (sym c.self.view_is) c.requires.same_written
     ∙ written_is (D.geometry dev) (D.infos dev) (D.image dev) s.zone (g.met.D.ZonedDevice.possible dev c.requires.is_known) (g.met.D.ZonedDevice.told dev told c.requires.is_known) in_range in
-    subst (λ r. log_item.Clean ≡ item_at r.next (first_item r.block_size (drop r.next (zone_at (D.image dev) r.zone).blocks))) c.self.view_is
-    (ap (item_at s.next) (sym (none_left s.block_size s.next (zone_at (D.image dev) s.zone).blocks (omega (arith, written, c.if-self.true)))))
+    subst (λ r. first_item r.block_size (drop r.next (zone_at (D.image dev) r.zone).blocks) ≡ NoMore) c.self.view_is
+    (none_left s.block_size s.next (zone_at (D.image dev) s.zone).blocks (omega (arith, written, c.if-self.true)))
 
-pub returns-then-count-from-clause-item : goal.returns-then-count-from-clause-item
-returns-then-count-from-clause-item g c = λ told.
+pub returns-then-count-from-clause-first : goal.returns-then-count-from-clause-first
+returns-then-count-from-clause-first g c = λ told.
     let D = g.D.ZonedDevice in
     let dev = c.args.dev.now in
     let s = c.self.inside in
@@ -42,8 +42,8 @@ returns-then-count-from-clause-item g c = λ told.
     c.blocks_of-count.ensures ∙ ap (blocks_of s.block_size) (c.from.ensures ∙ c.u32_at-len.ensures) in
     let some : 0 < length (drop s.next blocks) = omega (arith, left, c.if-self.false, c.self.invariant) in
     let more : length (drop s.next blocks) < blocks_of s.block_size (u32_at 4 c.deref.result.now) = omega (arith, left, count, c.if-count-from.true, c.from-2.ensures) in
-    subst (λ r. log_item.Torn s.next ≡ item_at r.next (first_item r.block_size (drop r.next (zone_at (D.image dev) r.zone).blocks))) c.self.view_is
-    (ap (item_at s.next) (sym (unfinished s.block_size (drop s.next blocks) c.deref.result.now some first more)))
+    subst (λ r. first_item r.block_size (drop r.next (zone_at (D.image dev) r.zone).blocks) ≡ Unfinished) c.self.view_is
+    (unfinished s.block_size (drop s.next blocks) c.deref.result.now some first more)
 
 pub judged-requires : goal.judged-requires
 judged-requires g c =
@@ -60,8 +60,8 @@ judged-requires g c =
     ap length c.deref-2.ensures.value ∙ c.in_ok-read_blocks-2.ensures.len ∙ ap (λ n. n + (count - 1) * s.block_size) first_len ∙ one_and_rest count s.block_size some in
     omega (arith, room, all_len, ap (λ n. n * s.block_size) count_is)
 
-pub returns-clause-item : goal.returns-clause-item
-returns-clause-item g c =
+pub returns-clause-first : goal.returns-clause-first
+returns-clause-first g c =
     IfOk-weaker c.judged.result _ _ (λ found item told.
     let D = g.D.ZonedDevice in
     let dev = c.args.dev.now in
@@ -87,9 +87,9 @@ returns-clause-item g c =
     ∙ ap (λ b. b ++ bytes_at (D.image c.read_blocks.new.dev) s.zone (s.next + 1) (c.blocks_of-count.result - 1)) (sym c.deref.ensures.value ∙ first)
     ∙ ap (λ b. concat (take 1 (drop s.next blocks)) ++ b) rest
     ∙ joined blocks s.next c.blocks_of-count.result (omega (arith, count, blocks_positive s.block_size (u32_at 4 c.deref.result.now) positive)) in
-    subst (λ r. found_item r.next found ≡ item_at r.next (first_item r.block_size (drop r.next (zone_at (D.image dev) r.zone).blocks))) c.self.view_is
-    (item ∙ ap (item_at s.next) (sym (whole s.block_size (drop s.next blocks) c.deref.result.now c.deref-2.result.now c.u32_at-len.result c.blocks_of-count.result some first c.u32_at-len.ensures count there all))))
-    c.judged.ensures.item
+    subst (λ r. first_item r.block_size (drop r.next (zone_at (D.image dev) r.zone).blocks) ≡ first_of found) c.self.view_is
+    (whole s.block_size (drop s.next blocks) c.deref.result.now c.deref-2.result.now c.u32_at-len.result c.blocks_of-count.result some first c.u32_at-len.ensures count there all ∙ item))
+    c.judged.ensures.first
 
 pub returns-clause-device : goal.returns-clause-device
 returns-clause-device g c = reads_on g.met.D.ZonedDevice.moments c.read_blocks.ensures.device c.read_blocks-2.ensures.device
