@@ -1,5 +1,5 @@
 -- A reader of the records of a zone, one by one.
-use Rattle.std.specs.Prelude.{◌≡◌, ℕ, ◌+◌, ◌≤◌, ⊤, List, [], length, drop, Option, Some, None}
+use Rattle.std.specs.Prelude.{◌≡◌, ℕ, ◌+◌, ◌^◌, ◌<◌, ◌≤◌, ⊤, List, [], length, drop, Option, Some, None}
 use Rattle.log_model.specs.LogScan.{Item, Scan, ScanEnd, blocks_of, first_item, scan_from, with_payload}
 use Rattle.log_model.specs.LogScan.Item.{NoMore, Unfinished, Wrong, Whole}
 use Rattle.log_model.specs.LogScan.ScanEnd.{Clean, Torn, Bad}
@@ -60,9 +60,9 @@ abbrev pub IsRecordOf : ℕ → ℕ → Found → Type 0
 IsRecordOf len blocks (found.Record count bytes) = (length bytes ≡ len) × (count ≡ blocks)
 IsRecordOf len blocks (found.End end) = ⊤
 
--- a record has as many blocks as its length asks for, and these are left
+-- a record has as many blocks as its length asks for, these are left, and its length is one of 32 bits
 abbrev pub IsCounted : ReaderState → Found → Type 0
-IsCounted s (found.Record count bytes) = (count ≡ blocks_of s.block_size (length bytes)) × (s.next + count ≤ s.written)
+IsCounted s (found.Record count bytes) = (count ≡ blocks_of s.block_size (length bytes)) × (s.next + count ≤ s.written) × (length bytes < 2 ^ 32)
 IsCounted s (found.End end) = ⊤
 
 -- nothing but the end that was found before, or this
@@ -73,6 +73,11 @@ unless_over (Some end) rest = record { payloads = []; end = end }
 -- what a reader finds in these blocks of its zone
 abbrev pub next_item : ReaderState → List (List ℕ) → LogItem
 next_item s blocks = unless_ended s.ended (item_at s.next (first_item s.block_size (drop s.next blocks)))
+
+-- a payload is shorter than 2 ^ 32 bytes
+abbrev pub IsShort : LogItem → Type 0
+IsShort (log_item.Payload block bytes) = length bytes < 2 ^ 32
+IsShort _ = ⊤
 
 -- what is left to scan of these blocks of a zone
 abbrev pub scan_left : ReaderState → List (List ℕ) → Scan

@@ -6,7 +6,7 @@ ghost use Rattle.zone_image.specs.Infos.{info_at};
 ghost use Rattle.zone_image.specs.Reads.{OnlyReads};
 ghost use Rattle.log_model.specs.LogScan.{blocks_of, first_item, whole_item};
 ghost use Rattle.meta_log.specs.Ends.{scan_end};
-ghost use Rattle.meta_log.specs.Reader.{IsCounted, IsPlaced, IsRecordOf, IsSameLog, end_item, first_of, next_item, reader_after, scan_left, with_item};
+ghost use Rattle.meta_log.specs.Reader.{IsCounted, IsPlaced, IsRecordOf, IsSameLog, IsShort, end_item, first_of, next_item, reader_after, scan_left, with_item};
 
 use crate::error::LogError;
 use crate::item::{Found, LogEnd, LogItem};
@@ -65,6 +65,7 @@ impl LogReader {
         ensures item { IfOk result (λ item. D.tells → item ≡ next_item self.old (zone_at (D.image dev.old) self.old.zone).blocks) }
         ensures scan { IfOk result (λ item. D.tells → scan_left self.old (zone_at (D.image dev.old) self.old.zone).blocks
             ≡ with_item item (scan_left self.new (zone_at (D.image dev.old) self.old.zone).blocks)) }
+        ensures short { IfOk result IsShort }
         ensures after { IfOk result (λ item. self.new ≡ reader_after self.old item) }
         ensures err { OnErr result (self.new ≡ self.old) }
         ensures same { IsSameLog self.old self.new }

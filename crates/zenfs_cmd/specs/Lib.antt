@@ -1,2 +1,5 @@
 pub mod Words
 pub mod Repeats
+pub mod SmallImage
+pub mod Refusals
+pub mod SmallLogs

@@ -1,7 +1,11 @@
 //! The utility `zenfs`: its words, and what each command does.
 #![tactic(auto)]
 
+mod bare;
+mod refusal;
 mod repeats;
+mod small_image;
+mod small_log;
 mod words;
 
 pub use fs_report::{MemSink, OutSink, Sink, SinkFault, Status};
