@@ -170,7 +170,7 @@ impl MemZones {
 }
 
 impl ZonedDevice for MemZones {
-    ghost use Rattle.zoned_device.specs.MemState.{image_of, geometry_of, infos_in, tick_of, since_of, IsKnown, IsAbsent};
+    ghost use Rattle.zoned_device.specs.MemState.{image_of, geometry_of, infos_in, tick_of, since_of, IsKnown, IsAbsent, Fails};
     ghost use Rattle.zoned_device.specs.MemLaws.{mem_moments, mem_possible, mem_told, mem_there, mem_since_all};
 
     ghost known = { IsKnown };
@@ -196,6 +196,10 @@ impl ZonedDevice for MemZones {
     ghost faults = { λ m. m.calls.faults };
 
     ghost failed_changes = { λ m. m.calls.failed_changes };
+
+    ghost may_fail = { Fails };
+
+    ghost must_fail = { Fails };
 
     fn probe(&mut self) -> Result<Geometry, ProbeError> {
         if self.begin().is_some() {

@@ -74,6 +74,10 @@ impl ZonedDevice for SureZones {
 
     ghost failed_changes = { λ _. 0 };
 
+    ghost may_fail = { λ _ _. ⊥ };
+
+    ghost must_fail = { λ _ _. ⊥ };
+
     fn probe(&mut self) -> Result<Geometry, ProbeError> {
         self.tick = tick_after(self.tick);
         Ok(self.memory.geometry())
