@@ -1,5 +1,5 @@
 -- What a device in memory holds: its image, and how it came to be.
-use Rattle.std.specs.Prelude.{◌≡◌, ◌⊎◌, ℕ, ◌==◌, ◌+◌, ◌*◌, ◌<◌, ◌≤◌, Bool, ◌&&◌, List, [], ◌∷◌, ◌++◌, length, take, Option, None, Some, nat_lt, nat_le, if◌then◌else◌, is_none}
+use Rattle.std.specs.Prelude.{◌⊎◌, ℕ, ◌==◌, ◌+◌, ◌*◌, ◌<◌, ◌≤◌, Bool, ◌&&◌, List, [], ◌∷◌, ◌++◌, length, take, Option, None, Some, nat_lt, nat_le, if◌then◌else◌, is_none}
 use Rattle.zone_image.specs.declared.Geometry.{Geometry}
 use Rattle.zone_image.specs.Address.{device_bytes}
 use Rattle.zone_image.specs.Image.{Image, IsCrash}

@@ -1,9 +1,9 @@
-use Rattle.std.proofs.Common.{◌≡◌, ◌%◌, length, Some, List, sym, ◌∙◌, ap, subst, refl}
+use Rattle.std.proofs.Common.{◌≡◌, ◌%◌, length, Some, sym, ◌∙◌, ap, subst}
 use Rattle.std.specs.Prelude.{is_ok, is_none, ◌&&◌}
 use Rattle.zone_image.specs.Changes.{blocks_in}
 use Rattle.zone_image.specs.Infos.{infos_of, IsValidImage}
 use Rattle.zone_image.proofs.InfoLaws.{infos_written}
-use Rattle.zoned_device.specs.Content.{Content, Append, AllBefore, content_after, calls_after, is_done, room_for}
+use Rattle.zoned_device.specs.Content.{Append, AllBefore, content_after, calls_after, is_done, room_for}
 use Rattle.zoned_device.specs.MemState.{MemState, image_of, IsKnown, BeganBefore, passes}
 use Rattle.zoned_device.specs.CallState.{fault_of}
 use Rattle.zoned_device.proofs.Changes.{CanAppend}
