@@ -95,8 +95,8 @@ impl Draft {
         Ok(())
     }
 
-    #[tactic(auto, unfolding(crate::specs::Draft::finished))]
     /// The entry that has these fields, or the least tag that is wanting, at the entry's place.
+    #[tactic(auto, unfolding(crate::specs::Draft::finished))]
     pub(crate) fn finish(self, at: u32) -> Result<FileEntry, DecodeFault>
         ensures { Returns (λ e. e) result (finished at self) }
     {

@@ -14,7 +14,7 @@ use crate::cursor::Cursor;
 use crate::draft::Draft;
 use crate::error::FieldError;
 use crate::value::{slice_at, u32_at, u64_at};
-use record_model::{Extent, Field, FieldKind, NO_ACTIVE, Name, NameError, Why};
+use record_model::{Extent, Field, FieldKind, MAX_ID, Name, NameError, Why};
 use std::alloc::Global;
 
 /// The greatest lifetime hint.
@@ -54,7 +54,7 @@ fn value_at<'a>(
     match kind {
         FieldKind::Id => {
             let (id, c) = single_u64(kind, seen, c)?;
-            ranged(id != NO_ACTIVE)?;
+            ranged(id <= MAX_ID)?;
             Ok((Field::Id(id), c))
         }
         FieldKind::Size => {
