@@ -1,7 +1,8 @@
 //! The fields of an entry that were read so far, kept by kind.
 
 ghost use Rattle.std.specs.Prelude.{◌≡◌, OnOk};
-ghost use Rattle.record_codec.specs.Draft.{empty_draft, with_field, has_kind, has_drafted_name, finished, missing, required};
+ghost use Rattle.record_model.specs.Encoding.{kind_tag};
+ghost use Rattle.record_codec.specs.Draft.{empty_draft, with_field, has_drafted_tag, has_drafted_name, finished, missing, required};
 ghost use Rattle.record_codec.specs.Outcome.{Returns};
 
 use record_model::{DecodeFault, Extent, Extents, Field, FieldKind, FileEntry, Name, Names, Why};
@@ -57,7 +58,7 @@ impl Draft {
 
     /// Whether a field that may stand once is there.
     pub(crate) fn has(&self, kind: FieldKind) -> bool
-        ensures { result ≡ has_kind kind self.now }
+        ensures { result ≡ has_drafted_tag (kind_tag kind) self.now }
     {
         match kind {
             FieldKind::Id => self.id.is_some(),
