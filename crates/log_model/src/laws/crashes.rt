@@ -1,0 +1,17 @@
+//! Laws of crashes: what they leave of the zones that logs and tables are read from.
+ghost use Rattle.log_model.specs.CrashLaws.{CrashKeepsFronts, DurableZoneStays, AppendCrashLeavesPart};
+
+/// A crash keeps the first blocks of each zone.
+pub fn crash_keeps_fronts()
+    ensures { CrashKeepsFronts }
+{}
+
+/// A zone whose blocks are all durable keeps all of them.
+pub fn durable_zone_stays()
+    ensures { DurableZoneStays }
+{}
+
+/// After an append to a durable metadata zone a crash leaves the first blocks of the append there, and the other metadata zones as they were.
+pub fn append_crash_leaves_part()
+    ensures { AppendCrashLeavesPart }
+{}
