@@ -1,7 +1,17 @@
 -- What a crash leaves of the zones that logs and tables are read from.
-use Rattle.std.specs.Prelude.{◌≡◌, ℕ, ◌<◌, ◌≤◌, List, length, take}
+use Rattle.std.specs.Prelude.{◌≡◌, ℕ, ◌<◌, ◌≤◌, ◌⊎◌, false, List, length, take, None, Ok}
 use Rattle.zone_image.specs.Image.{Image, IsCrash, zone_at}
 use Rattle.zone_image.specs.Changes.{appended}
+use Rattle.zone_image.specs.Moments.{PassedByAppend}
+use Rattle.record_model.specs.Decoding.{record_of}
+use Rattle.record_model.specs.declared.types.Record.{Record}
+use Rattle.log_model.specs.LogScan.{record_blocks, has_end}
+use Rattle.log_model.specs.LogScan.ScanEnd.{Clean}
+use Rattle.log_model.specs.ScanLaws.{IsRecordOf}
+use Rattle.log_model.specs.LogSelection.{LogAt}
+use Rattle.log_model.specs.FileTable.{Table, after_record}
+use Rattle.log_model.specs.Mounted.{broken_rule}
+use Rattle.log_model.specs.MountedLogLaws.{HasTable, MountsTable}
 use Rattle.log_model.specs.MountLaws.{KeepsFronts}
 use Rattle.log_model.specs.AppendLaws.{AppendsTo}
 
@@ -21,3 +31,10 @@ DurableZoneStays = (i j : Image) (zone : ℕ) → IsCrash i j → IsDurable i zo
 abbrev pub AppendCrashLeavesPart : Type 0
 AppendCrashLeavesPart = (i j : Image) (zone : ℕ) (more : List (List ℕ)) → zone < length i.zones → ((m : ℕ) → m < 3 → IsDurable i m) → zone < 3
     → IsCrash (appended i zone more) j → (k : ℕ) × (k ≤ length more) × AppendsTo zone (take k more) i j
+
+-- a crash within the append of a record to the log leaves the table before it or the one after it, where these break no rule there
+abbrev pub RecordCrashMounts : Type 0
+RecordCrashMounts = (i j : Image) (log : LogAt) (greatest : ℕ) (payload : List ℕ) (r : Record) (es next : Table) → HasTable i log greatest es
+    → log.scan.end ≡ Clean → has_end log.scan.payloads ≡ false → IsRecordOf i.geometry.block payload → record_of payload ≡ Ok r → after_record r es ≡ Ok next
+    → ((m : ℕ) → m < 3 → IsDurable i m) → 3 ≤ length i.zones → PassedByAppend i log.zone (record_blocks i.geometry.block payload) j
+    → (broken_rule j es ≡ None → MountsTable j es) ⊎ (broken_rule j next ≡ None → MountsTable j next)

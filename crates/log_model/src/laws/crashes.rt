@@ -1,5 +1,5 @@
 //! Laws of crashes: what they leave of the zones that logs and tables are read from.
-ghost use Rattle.log_model.specs.CrashLaws.{CrashKeepsFronts, DurableZoneStays, AppendCrashLeavesPart};
+ghost use Rattle.log_model.specs.CrashLaws.{CrashKeepsFronts, DurableZoneStays, AppendCrashLeavesPart, RecordCrashMounts};
 
 /// A crash keeps the first blocks of each zone.
 pub fn crash_keeps_fronts()
@@ -14,4 +14,9 @@ pub fn durable_zone_stays()
 /// After an append to a durable metadata zone a crash leaves the first blocks of the append there, and the other metadata zones as they were.
 pub fn append_crash_leaves_part()
     ensures { AppendCrashLeavesPart }
+{}
+
+/// A crash within the append of a record to the log leaves the table before it or the one after it, where these break no rule there.
+pub fn record_crash_mounts()
+    ensures { RecordCrashMounts }
 {}
