@@ -20,7 +20,7 @@ empty_stays : ZoneCrash no_zone no_zone
 empty_stays = record { front = refl; enough = omega arith; durable = refl; seal = refl }
 
 -- a zone after a crash
-crashed_zone : (i j : Image) (n : ℕ) → IsCrash i j → ZoneCrash (zone_at i n) (zone_at j n)
+pub crashed_zone : (i j : Image) (n : ℕ) → IsCrash i j → ZoneCrash (zone_at i n) (zone_at j n)
 crashed_zone i j n h = zone_of_both ZoneCrash i.zones j.zones n empty_stays h.zones
 
 pub crash_keeps_fronts : CrashKeepsFronts
@@ -54,7 +54,7 @@ changed_elsewhere (suc n) zero f (z ∷ zs) h = refl
 changed_elsewhere (suc n) (suc m) f (z ∷ zs) h = changed_elsewhere n m f zs (λ same. h (ap suc same))
 
 -- the first items of joined lists, past the first list
-take_past : {A : Type 0} (xs ys : List A) (n : ℕ) → length xs ≤ n → take n (xs ++ ys) ≡ xs ++ take (n - length xs) ys
+pub take_past : {A : Type 0} (xs ys : List A) (n : ℕ) → length xs ≤ n → take n (xs ++ ys) ≡ xs ++ take (n - length xs) ys
 take_past [] ys n h = ap (λ m. take m ys) (omega arith)
 take_past (x ∷ xs) ys zero h = absurd (omega arith)
 take_past (x ∷ xs) ys (suc n) h =

@@ -24,7 +24,7 @@ take_none zero = refl
 take_none (suc n) = refl
 
 -- the first of the first items are the first items
-take_twice : {A : Type 0} (m n : ℕ) (xs : List A) → take m (take n xs) ≡ take (min m n) xs
+pub take_twice : {A : Type 0} (m n : ℕ) (xs : List A) → take m (take n xs) ≡ take (min m n) xs
 take_twice zero n xs = let none : 0 ≡ min 0 n = omega arith in ap (λ k. take k xs) none
 take_twice (suc m) zero xs = let none : 0 ≡ min (suc m) 0 = omega arith in ap (λ k. take k xs) none
 take_twice (suc m) (suc n) [] = sym (take_none (min (suc m) (suc n)))
