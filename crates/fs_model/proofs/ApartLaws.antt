@@ -1,9 +1,9 @@
 -- Files stay apart: no id comes to stand twice, and no name in two files.
-use Rattle.std.specs.Prelude.{◌≡◌, ◌≢◌, ◌⊎◌, ⊤, ℕ, ◌+◌, ◌<◌, ◌≤◌, Bool, true, false, not, ◌||◌, ◌==◌, List, [], ◌∷◌, ◌++◌, map, filter, Option, Some, None, is_some, refl, if◌then◌else◌}
+use Rattle.std.specs.Prelude.{◌≡◌, ◌⊎◌, ℕ, ◌<◌, Bool, true, false, not, ◌||◌, ◌==◌, List, [], ◌∷◌, ◌++◌, Some, is_some, refl, if◌then◌else◌}
 use Rattle.std.specs.List.{AllByRecursion}
 use Rattle.std.specs.Str.{bytes_eq}
 use Rattle.std.specs.Cmp.Lexicographic.{same_text}
-use Rattle.std.proofs.Common.{sym, ◌∙◌, ap, subst, inl, inr, ⊎_elim, arith}
+use Rattle.std.proofs.Common.{sym, ◌∙◌, ap, ⊎_elim, arith}
 use Rattle.std.proofs.lemmas.Bool.{false≢true, eqb-true, eq-eqb}
 use Rattle.log_model.specs.FileTable.{is_among, is_named, names_left}
 use Rattle.fs_model.specs.FsState.{TableRow, row_named, on_row}
@@ -88,9 +88,10 @@ apart_first : (id : ℕ) (names : List (List ℕ)) (new : List ℕ) (r : TableRo
     → ((r.entry.id == id) ≡ true → AreNamesOr names new r) → AllByRecursion (λ q. (q.entry.id == id) ≡ true → AreNamesOr names new q) qs
     → AllByRecursion (IsApart (as_named (r.entry.id == id) names r)) (on_row id (with_names names) qs)
 apart_first id names new r [] apart no_new no_new2 own own2 = tt
-apart_first id names new r (q ∷ qs) apart no_new no_new2 own own2 =
-    (apart_choice (r.entry.id == id) (q.entry.id == id) id names new r q refl refl apart.0 no_new no_new2.0 own own2.0,
-    apart_first id names new r qs apart.1 no_new no_new2.1 own own2.1)
+apart_first id names new r (q ∷ qs) apart no_new no_new2 own own2 = (
+  apart_choice (r.entry.id == id) (q.entry.id == id) id names new r q refl refl apart.0 no_new no_new2.0 own own2.0,
+  apart_first id names new r qs apart.1 no_new no_new2.1 own own2.1,
+)
 
 -- files stay apart where one of them gets other names
 pub apart_named : (id : ℕ) (names : List (List ℕ)) (new : List ℕ) (rows : List TableRow) → AreApart rows → AllByRecursion (λ q. is_among q.entry.names new ≡ false) rows
@@ -109,9 +110,11 @@ left_was_there taken (n ∷ ns) name h = choice (not (is_among taken n)) (left_w
     second : (a b : Bool) → b ≡ true → (a || b) ≡ true
     second true b h = refl
     second false b h = h
+
     first : (a b c : Bool) → (c ≡ true → b ≡ true) → (a || c) ≡ true → (a || b) ≡ true
     first true b c f h = refl
     first false b c f h = f h
+
     choice : (k : Bool) → (is_among (names_left taken ns) name ≡ true → is_among ns name ≡ true)
         → is_among (if k then n ∷ names_left taken ns else names_left taken ns) name ≡ true → is_among (n ∷ ns) name ≡ true
     choice true rest h = first (bytes_eq n name) (is_among ns name) (is_among (names_left taken ns) name) rest h
