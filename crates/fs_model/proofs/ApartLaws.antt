@@ -9,11 +9,7 @@ use Rattle.log_model.specs.FileTable.{is_among, is_named, names_left}
 use Rattle.fs_model.specs.FsState.{TableRow, row_named, on_row}
 use Rattle.fs_model.specs.TreeSteps.{with_names, drop_name}
 use Rattle.fs_model.specs.ValidRows.{IsApart, AreApart}
-
--- a test that can't hold
-not_true : (b : Bool) → (b ≡ true → ⊥) → b ≡ false
-not_true true h = absurd (h refl)
-not_true false h = refl
+use Rattle.fs_model.proofs.TreeLaws.{not_true}
 
 -- ---- one file more
 
