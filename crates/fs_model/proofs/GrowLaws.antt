@@ -15,6 +15,7 @@ use Rattle.fs_model.specs.ValidRows.{IsApart, AreApart}
 use Rattle.fs_model.specs.CrashClauses.{shown_file, shown_tree, all_bytes}
 use Rattle.fs_model.proofs.KeptFileCalls.{has_id}
 use Rattle.fs_model.proofs.RowLaws.{commit_made}
+use Rattle.fs_model.proofs.TreeLaws.{all_map}
 
 -- the file of an id is the only one, at the first place or later
 only_choice : (b : Bool) (id : ℕ) (q r : TableRow) (qs : List TableRow) → (q.entry.id == id) ≡ b → AllByRecursion (IsApart q) qs
@@ -48,11 +49,6 @@ grown_shown i id g bytes now [] same = refl
 grown_shown i id g bytes now (q ∷ qs) same =
     ap (λ f. f ∷ map (shown_file i) (on_row id g qs)) (grown_choice i (q.entry.id == id) g bytes now q same.0)
     ∙ ap (λ fs. (if q.entry.id == id then (record (shown_file i q) { bytes = bytes; time = now }) else shown_file i q) ∷ fs) (grown_shown i id g bytes now qs same.1)
-
--- what follows for each follows for all
-all_map : (P Q : TableRow → Type 0) (rows : List TableRow) → ((r : TableRow) → P r → Q r) → AllByRecursion P rows → AllByRecursion Q rows
-all_map P Q [] f h = tt
-all_map P Q (r ∷ rs) f h = (f r h.0, all_map P Q rs f h.1)
 
 -- one file after a commit
 commit_one : (i : Image) (now : ℕ) (r : TableRow) → shown_file i (committed now r) ≡ (record (shown_file i r) { bytes = all_bytes i r; time = commit_time now r })

@@ -1,10 +1,11 @@
 -- The files after each change, where it is made and where it is refused.
-use Rattle.std.specs.Prelude.{◌≡◌, ℕ, ◌+◌, ◌-◌, ◌^◌, Bool, ◌==◌, List, [], ◌∷◌, ◌++◌, Option, Some, None, is_some, Ok, refl}
+use Rattle.std.specs.Prelude.{◌≡◌, ℕ, ◌+◌, ◌-◌, ◌^◌, Bool, ◌==◌, List, [], ◌∷◌, ◌++◌, Option, Some, None, is_some, Ok, refl, Bool, true, false}
 use Rattle.std.proofs.Common.{◌∙◌, ap}
 use Rattle.record_model.specs.declared.types.Record.{Record}
 use Rattle.record_model.specs.declared.types.Record.TheVariants as records
 use Rattle.record_model.specs.declared.types.FileEntry.{FileEntry}
 use Rattle.log_model.specs.Headroom.{blocks_of_record}
+use Rattle.fs_model.specs.declared.error.FsError.{FsError}
 use Rattle.fs_model.specs.declared.error.FsError.TheVariants.{Exists, IdsEnd}
 use Rattle.fs_model.specs.FsState.{FsState, TableRow, row_named, on_row}
 use Rattle.fs_model.specs.Trace.{done, step, refuse_if, ◌>>◌, from_state}
@@ -122,3 +123,31 @@ pub commit_made : (now : ℕ) (s : FsState) (there : Option TableRow)
     × ((or_gone (λ q. from_state (λ t. commit_blocks (blocks_of_record (block_of t) (commit_record now q)) now q)) there s).last.rows ≡ on_row r.entry.id (committed now) s.rows)
 commit_made now s None h = absurd cc
 commit_made now s (Some r) h = (r, refl, commit_blocks_made (blocks_of_record (block_of s) (commit_record now r)) now r s h)
+
+-- a test that was passed
+passed : {A : Type 0} → (b : Bool) (e : FsError) (m : FsAction A) (x : A) (s : FsState) → ((refuse_if b e >> m) s).answer ≡ Ok x → b ≡ false
+passed true e m x s h = absurd cc
+passed false e m x s h = refl
+
+-- the first of two tests that were passed
+passed_first : {A : Type 0} → (b c : Bool) (e d : FsError) (m : FsAction A) (x : A) (s : FsState) → ((refuse_if b e >> refuse_if c d >> m) s).answer ≡ Ok x → b ≡ false
+passed_first true c e d m x s h = absurd cc
+passed_first false c e d m x s h = refl
+
+-- a file is made only under a name that no file has
+pub create_absent : (name : List ℕ) (hint : ℕ) (sparse : Bool) (now : ℕ) (s : FsState) (id : ℕ) → (create name hint sparse now s).answer ≡ Ok id → is_some (row_named name s.rows) ≡ false
+unfolding create
+create_absent name hint sparse now s id h =
+    let e : FileEntry = new_entry (s.greatest + 1) name hint sparse now in
+    let change : FsAction NoValue = change_rows s (records.Update e) (s.rows ++ new_row e ∷ []) e.id in
+    let exists : Bool = is_some (row_named name s.rows) in
+    let last : Bool = s.greatest == 2 ^ 64 - 2 in
+    let all = answered (refuse_if exists Exists >> refuse_if last IdsEnd >> change) e.id id s h in
+    passed_first exists last Exists IdsEnd change tt s all.0
+
+-- so is a link
+pub link_absent : (s : FsState) (there : Option TableRow) (new : List ℕ) → (link_to s there new s).answer ≡ Ok tt → is_some (row_named new s.rows) ≡ false
+link_absent s None new h = absurd cc
+link_absent s (Some r) new h =
+    let names : List (List ℕ) = r.entry.names ++ new ∷ [] in
+    passed (is_some (row_named new s.rows)) Exists (change_rows s (entry_update (with_names names r).entry) (on_row r.entry.id (with_names names) s.rows) s.greatest) tt s h

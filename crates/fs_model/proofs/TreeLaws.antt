@@ -53,7 +53,7 @@ found_choice P true q r later here rest h = let same : q ≡ r = cc in subst P s
 found_choice P false q r later here rest h = rest h
 
 -- the same over a list
-at_name : (P : TableRow → Type 0) (name : List ℕ) (rows : List TableRow) (r : TableRow) → AllByRecursion P rows → row_named name rows ≡ Some r → P r
+pub at_name : (P : TableRow → Type 0) (name : List ℕ) (rows : List TableRow) (r : TableRow) → AllByRecursion P rows → row_named name rows ≡ Some r → P r
 at_name P name [] r h is = absurd cc
 at_name P name (q ∷ qs) r h is = found_choice P (is_among q.entry.names name) q r (row_named name qs) h.0 (at_name P name qs r h.1) is
 
@@ -76,7 +76,7 @@ only_choice false name q r qs apart rest h =
     ((λ is. absurd (false≢true (sym (at_name (IsApart q) name qs r apart h).id ∙ ids_back q.entry.id r.entry.id is))), rest h)
 
 -- the file of a name is the only one of its id
-only_one : (name : List ℕ) (rows : List TableRow) (r : TableRow) → AreApart rows → row_named name rows ≡ Some r
+pub only_one : (name : List ℕ) (rows : List TableRow) (r : TableRow) → AreApart rows → row_named name rows ≡ Some r
     → AllByRecursion (λ q. (q.entry.id == r.entry.id) ≡ true → q ≡ r) rows
 only_one name [] r apart is = tt
 only_one name (q ∷ qs) r apart is = only_choice (is_among q.entry.names name) name q r qs apart.0 (λ h. only_one name qs r apart.1 h) is
@@ -111,7 +111,7 @@ names_shown i id names g (q ∷ qs) same =
     ∙ ap (λ fs. (if q.entry.id == id then (record (shown_file i q) { names = g q.entry.names }) else shown_file i q) ∷ fs) (names_shown i id names g qs same.1)
 
 -- what follows for each follows for all
-all_map : (P Q : TableRow → Type 0) (rows : List TableRow) → ((r : TableRow) → P r → Q r) → AllByRecursion P rows → AllByRecursion Q rows
+pub all_map : (P Q : TableRow → Type 0) (rows : List TableRow) → ((r : TableRow) → P r → Q r) → AllByRecursion P rows → AllByRecursion Q rows
 all_map P Q [] f h = tt
 all_map P Q (r ∷ rs) f h = (f r h.0, all_map P Q rs f h.1)
 
@@ -141,23 +141,23 @@ holder_choice true name q r qs has apart rest h =
 holder_choice false name q r qs has apart rest h = ((λ is. absurd (false≢true (sym has ∙ is))), rest h)
 
 -- one file alone has a name
-only_holder : (name : List ℕ) (rows : List TableRow) (r : TableRow) → AreApart rows → row_named name rows ≡ Some r
+pub only_holder : (name : List ℕ) (rows : List TableRow) (r : TableRow) → AreApart rows → row_named name rows ≡ Some r
     → AllByRecursion (λ q. is_among q.entry.names name ≡ true → q ≡ r) rows
 only_holder name [] r apart is = tt
 only_holder name (q ∷ qs) r apart is = holder_choice (is_among q.entry.names name) name q r qs refl apart.0 (λ h. only_holder name qs r apart.1 h) is
 
 -- a test that can't hold
-not_true : (b : Bool) → (b ≡ true → ⊥) → b ≡ false
+pub not_true : (b : Bool) → (b ≡ true → ⊥) → b ≡ false
 not_true true h = absurd (h refl)
 not_true false h = refl
 
 -- neither of two tests holds
-neither : (a b : Bool) → (a || b) ≡ false → (a ≡ false) × (b ≡ false)
+pub neither : (a b : Bool) → (a || b) ≡ false → (a ≡ false) × (b ≡ false)
 neither true b h = absurd (false≢true (sym h))
 neither false b h = (refl, h)
 
 -- a name that isn't another, the other way round
-other_way : (n m : List ℕ) → bytes_eq n m ≡ false → bytes_eq m n ≡ false
+pub other_way : (n m : List ℕ) → bytes_eq n m ≡ false → bytes_eq m n ≡ false
 other_way n m h = not_true (bytes_eq m n) (λ is. false≢true (sym h ∙ ap (λ k. bytes_eq k m) (sym (same_text m n (sym is))) ∙ itself (bytes_eq m m) m refl))
   where
     itself : (b : Bool) (k : List ℕ) → bytes_eq k k ≡ b → b ≡ true
@@ -165,7 +165,7 @@ other_way n m h = not_true (bytes_eq m n) (λ is. false≢true (sym h ∙ ap (λ
     itself false k is = absurd (other_text k k (sym is) refl)
 
 -- names without one that isn't among them
-without_absent : (names : List (List ℕ)) (name : List ℕ) → is_among names name ≡ false → names_left (name ∷ []) names ≡ names
+pub without_absent : (names : List (List ℕ)) (name : List ℕ) → is_among names name ≡ false → names_left (name ∷ []) names ≡ names
 without_absent [] name h = refl
 without_absent (n ∷ ns) name h =
     let parts = neither (bytes_eq n name) (is_among ns name) h in
@@ -177,7 +177,7 @@ dropped_choice P true r rs h k = (h, k)
 dropped_choice P false r rs h k = k
 
 -- what holds of each file without a name holds of the files without it
-all_dropped : (P : TableRow → Type 0) (name : List ℕ) (rows : List TableRow)
+pub all_dropped : (P : TableRow → Type 0) (name : List ℕ) (rows : List TableRow)
     → AllByRecursion (λ q. P (with_names (names_left (name ∷ []) q.entry.names) q)) rows → AllByRecursion P (drop_name name rows)
 all_dropped P name [] h = tt
 all_dropped P name (r ∷ rs) h =

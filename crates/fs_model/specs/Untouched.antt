@@ -1,5 +1,5 @@
 -- What operations leave alone: held zones and files that they don't name.
-use Rattle.std.specs.Prelude.{◌≡◌, ◌⊎◌, ⊤, ℕ, ◌≤◌, ◌<◌, Bool, false, List, [], ◌∷◌, ◌==◌, Contains}
+use Rattle.std.specs.Prelude.{◌≡◌, ◌⊎◌, ⊤, ℕ, ◌≤◌, ◌<◌, Bool, false, List, [], ◌∷◌, map, ◌==◌, Contains}
 use Rattle.std.specs.List.{list_any}
 use Rattle.fs_model.specs.declared.policy.Before.{Before}
 use Rattle.fs_model.specs.declared.policy.Before.TheVariants as befores
@@ -30,6 +30,14 @@ WasThere (q ∷ qs) r = SameFile r q ⊎ WasThere qs r
 abbrev pub KeepsFiles : List ℕ → List TableRow → List TableRow → Type 0
 KeepsFiles ids before [] = ⊤
 KeepsFiles ids before (r ∷ rs) = (is_one_of ids r.entry.id ≡ false → WasThere before r) × KeepsFiles ids before rs
+
+-- the ids of the files, in order
+abbrev pub ids_of : FsState → List ℕ
+ids_of s = map (λ r. r.entry.id) s.rows
+
+-- in every state that an operation passes the same files are there
+abbrev pub LosesNoFile : {A : Type 0} → FsAction A → Type 0
+LosesNoFile m = (s t : FsState) → Contains (intermediate_states (m s)) t → ids_of t ≡ ids_of s
 
 -- each data zone that somebody holds, but for these, is as it was
 abbrev pub KeepsHeldZones : List ℕ → FsState → FsState → Type 0

@@ -9,7 +9,7 @@ ghost use Rattle.fs_model.specs.FsState.{FsState};
 ghost use Rattle.fs_model.specs.LogSteps.{append_blocks, roll};
 ghost use Rattle.fs_model.specs.TreeSteps as tree;
 ghost use Rattle.fs_model.specs.FileSteps as file;
-ghost use Rattle.fs_model.specs.Untouched.{OnlyTouches, zones_of_plan};
+ghost use Rattle.fs_model.specs.Untouched.{LosesNoFile, OnlyTouches, zones_of_plan};
 
 /// A change of the tree, in every state that it passes, leaves alone each data zone that somebody
 /// holds and the data of each file; only a new file comes in, and files without names go.
@@ -39,6 +39,19 @@ pub fn zone_calls_touch_their_zone()
     ensures give_back { (zone : ℕ) (close : Bool) (s : FsState) → OnlyTouches (zone ∷ []) [] (file.give_back zone close) s }
     ensures hold { (p : Plan) (s : FsState) → OnlyTouches (zones_of_plan p) [] (file.hold p) s }
     ensures reset_victim { (zone : ℕ) (s : FsState) → OnlyTouches (zone ∷ []) [] (file.reset_victim zone) s }
+{}
+
+/// A call on a file or on a zone loses no file and makes none, in every state that it passes.
+pub fn calls_lose_no_file()
+    ensures commit { (id now : ℕ) → LosesNoFile (file.commit id now) }
+    ensures take_zone { (id : ℕ) → LosesNoFile (file.take_zone id) }
+    ensures note_extent { (id : ℕ) (x : Extent) → LosesNoFile (file.note_extent id x) }
+    ensures show { (id now : ℕ) → LosesNoFile (file.show id now) }
+    ensures replace { (id : ℕ) (moves : List Move) → LosesNoFile (file.replace id moves) }
+    ensures put_blocks { (zone blocks : ℕ) → LosesNoFile (append_blocks zone blocks) }
+    ensures give_back { (zone : ℕ) (close : Bool) → LosesNoFile (file.give_back zone close) }
+    ensures hold { (p : Plan) → LosesNoFile (file.hold p) }
+    ensures reset_victim { (zone : ℕ) → LosesNoFile (file.reset_victim zone) }
 {}
 
 /// A deletion, a commit and a collector's replacement are never refused for want of room: only

@@ -1,7 +1,8 @@
 // What each call makes of the tree that is shown. Each law is the contract of a function that
 // does nothing.
 
-ghost use Rattle.std.specs.Prelude.{◌≡◌, ℕ, ◌+◌, Bool, List, Some, Ok};
+ghost use Rattle.std.specs.Prelude.{◌≡◌, ℕ, ◌+◌, ◌≤◌, Bool, List, Some, Ok};
+ghost use Rattle.std.specs.List.{AllByRecursion};
 ghost use Rattle.zone_image.specs.Image.{Image};
 ghost use Rattle.log_model.specs.FileTree.{apply};
 ghost use Rattle.log_model.specs.FileTree.Change.{Create, Grow, Link, Rename, Unlink};
@@ -32,4 +33,18 @@ pub fn bytes_are_shown()
         × (shown_tree i (file.commit id now s).last ≡ apply (Grow id (all_bytes i r) (file.commit_time now r)) (shown_tree i s)) }
     ensures show { (i : Image) (id now : ℕ) (s : FsState) (r : TableRow) → AreApart s.rows → row_of id s.rows ≡ Some r
         → shown_tree i (file.show id now s).last ≡ apply (Grow id (all_bytes i r) now) (shown_tree i s) }
+{}
+
+/// A change of the tree that answers Ok keeps the files apart: no id comes to stand twice, and no
+/// name in two files.
+pub fn files_stay_apart()
+    ensures create { (name : List ℕ) (hint : ℕ) (sparse : Bool) (now : ℕ) (s : FsState) (id : ℕ)
+        → AreApart s.rows → AllByRecursion (λ r. r.entry.id ≤ s.greatest) s.rows → (tree.create name hint sparse now s).answer ≡ Ok id
+        → AreApart (tree.create name hint sparse now s).last.rows }
+    ensures link { (old new : List ℕ) (s : FsState) → AreApart s.rows → (tree.link old new s).answer ≡ Ok tt
+        → AreApart (tree.link old new s).last.rows }
+    ensures rename { (old new : List ℕ) (s : FsState) → AreApart s.rows → (tree.rename old new s).answer ≡ Ok tt
+        → AreApart (tree.rename old new s).last.rows }
+    ensures delete { (name : List ℕ) (s : FsState) → AreApart s.rows → (tree.delete name s).answer ≡ Ok tt
+        → AreApart (tree.delete name s).last.rows }
 {}

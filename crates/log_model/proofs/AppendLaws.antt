@@ -101,12 +101,12 @@ scan_of_zone i (suc (suc zero)) less = refl
 scan_of_zone i (suc (suc (suc n))) less = absurd (omega arith)
 
 -- the selected log's scan is that of its zone
-own_zone : (i : Image) (log : LogAt) (greatest : ℕ) → IsSelectedOn i log greatest → log.scan ≡ scan_at i log.zone
+pub own_zone : (i : Image) (log : LogAt) (greatest : ℕ) → IsSelectedOn i log greatest → log.scan ≡ scan_at i log.zone
 own_zone i log greatest h =
     let own = selected_is_of_its_zone i.geometry (scans_of i) log greatest h in own.1 ∙ scan_of_zone i log.zone own.0
 
 -- more blocks in the log's zone, by what their scan is
-appended_as : (i j : Image) (log : LogAt) (greatest : ℕ) (more : List (List ℕ)) (after : Scan) (payloads : List (ℕ × List ℕ)) → IsSelectedOn i log greatest
+pub appended_as : (i j : Image) (log : LogAt) (greatest : ℕ) (more : List (List ℕ)) (after : Scan) (payloads : List (ℕ × List ℕ)) → IsSelectedOn i log greatest
     → AppendsTo log.zone more i j → scan i.geometry.block ((zone_at i log.zone).blocks ++ more) ≡ after
     → log.scan.payloads ++ payloads ≡ after.payloads → is_bad after.end ≡ false → IsSelectedOn j (record log { scan = after }) greatest
 appended_as i j log greatest more after payloads h appends is longer ok =

@@ -142,12 +142,12 @@ record_named payload r h =
     kind_named a.0.0 (record_kind_of a.0.0) a.0.1 r a.2
 
 -- what is placed went well
-placed_is : {A : Type 0} → (at : ℕ) (r : Result A DamageWhy) (x : A) → placed at r ≡ Ok x → r ≡ Ok x
+pub placed_is : {A : Type 0} → (at : ℕ) (r : Result A DamageWhy) (x : A) → placed at r ≡ Ok x → r ≡ Ok x
 placed_is at (Ok y) x h = ap (λ z. Ok z) (ok_is h)
 placed_is at (Err cause) x h = cc
 
 -- a record that doesn't follow an end
-not_ended : (over : Bool) (r : Record) (es next : Table) → next_table over r es ≡ Ok next → after_record r es ≡ Ok next
+pub not_ended : (over : Bool) (r : Record) (es next : Table) → next_table over r es ≡ Ok next → after_record r es ≡ Ok next
 not_ended true r es next h = cc
 not_ended false r es next h = h
 

@@ -69,7 +69,7 @@ all_either P true x kept h g = (h refl, g)
 all_either P false x kept h g = g
 
 -- what holds of each entry without names
-all_taken : (P Q : FileEntry → Type 0) (ns : List (List ℕ)) (es : Table) → ((f : FileEntry) → P f → Q (without_names ns f)) → AllByRecursion P es → AllByRecursion Q (take_names ns es)
+pub all_taken : (P Q : FileEntry → Type 0) (ns : List (List ℕ)) (es : Table) → ((f : FileEntry) → P f → Q (without_names ns f)) → AllByRecursion P es → AllByRecursion Q (take_names ns es)
 all_taken P Q ns [] step h = tt
 all_taken P Q ns (f ∷ fs) step h =
     all_either Q (is_named (without_names ns f)) (without_names ns f) (take_names ns fs) (λ named. step f h.0) (all_taken P Q ns fs step h.1)
@@ -126,7 +126,7 @@ taken_table ns es table = record {
 }
 
 -- what holds of each entry of other ids
-all_others : (P : FileEntry → Type 0) (id : ℕ) (es : Table) → AllByRecursion P es → AllByRecursion P (others_of id es)
+pub all_others : (P : FileEntry → Type 0) (id : ℕ) (es : Table) → AllByRecursion P es → AllByRecursion P (others_of id es)
 all_others P id [] h = tt
 all_others P id (f ∷ fs) h = all_either P (not (f.id == id)) f (others_of id fs) (λ other. h.0) (all_others P id fs h.1)
 
@@ -195,7 +195,7 @@ placed_either false true P e f fs h g behind = (h, g.1)
 placed_either false false P e f fs h g behind = (g.0, behind)
 
 -- what holds of an entry and of each other one
-all_placed : (P : FileEntry → Type 0) (e : FileEntry) (es : Table) → P e → AllByRecursion P es → AllByRecursion P (with_entry e es)
+pub all_placed : (P : FileEntry → Type 0) (e : FileEntry) (es : Table) → P e → AllByRecursion P es → AllByRecursion P (with_entry e es)
 all_placed P e [] h g = (h, tt)
 all_placed P e (f ∷ fs) h g = placed_either (nat_lt e.id f.id) (e.id == f.id) P e f fs h g (all_placed P e fs h g.1)
 
@@ -257,7 +257,7 @@ set_table e es named table =
     (all_taken (λ f. ⊤) (λ f. shares_name e f ≡ false) e.names others (λ f h. taken_apart e.names f.names) (all_of (λ f. ⊤) others (λ f. tt)))
 
 -- a rule that isn't broken gives the table on
-unbroken_is : (broken : Bool) (rule : ℕ) (es next : Table) → unless_broken broken rule es ≡ Ok next → es ≡ next
+pub unbroken_is : (broken : Bool) (rule : ℕ) (es next : Table) → unless_broken broken rule es ≡ Ok next → es ≡ next
 unbroken_is true rule es next h = cc
 unbroken_is false rule es next h = ok_is h
 
@@ -273,7 +273,7 @@ grown_named None e h = h
 grown_named (Some f) e h = h
 
 -- what holds of each entry holds of each in order
-all_sorted : (P : FileEntry → Type 0) (es : Table) → AllByRecursion P es → AllByRecursion P (sorted es)
+pub all_sorted : (P : FileEntry → Type 0) (es : Table) → AllByRecursion P es → AllByRecursion P (sorted es)
 all_sorted P [] h = tt
 all_sorted P (e ∷ es) h = all_placed P e (sorted es) h.0 (all_sorted P es h.1)
 
@@ -297,7 +297,7 @@ sorted_table (e ∷ es) named ids names =
     (all_sorted (λ f. shares_name e f ≡ false) es (all_fail (shares_name e) es b.0))
 
 -- a rule that gives a table on isn't broken
-unbroken_test : (broken : Bool) (rule : ℕ) (es next : Table) → unless_broken broken rule es ≡ Ok next → broken ≡ false
+pub unbroken_test : (broken : Bool) (rule : ℕ) (es next : Table) → unless_broken broken rule es ≡ Ok next → broken ≡ false
 unbroken_test true rule es next h = cc
 unbroken_test false rule es next h = refl
 

@@ -6,6 +6,7 @@ pub mod LogChangeLaws
 pub mod AppendLaws
 pub mod NewLogLaws
 pub mod MountedLogLaws
+pub mod CrashLaws
 pub mod FileTable
 pub mod Frames
 pub mod Mounted

@@ -1,6 +1,5 @@
 -- What an image mounts to while its log gets a record, or is followed by a new one.
-use Rattle.std.specs.Prelude.{◌≡◌, ℕ, ◌<◌, true, false, List, ◌++◌, length, take, drop, map, None, Ok}
-use Rattle.std.specs.List.{AllByRecursion}
+use Rattle.std.specs.Prelude.{◌≡◌, ℕ, ◌<◌, false, List, ◌++◌, length, take, drop, map, None, Ok}
 use Rattle.zone_image.specs.Image.{Image}
 use Rattle.record_model.specs.Decoding.{record_of}
 use Rattle.record_model.specs.declared.types.Record.{Record}
@@ -10,9 +9,9 @@ use Rattle.log_model.specs.LogScan.{blocks_of, record_blocks, has_end}
 use Rattle.log_model.specs.LogScan.ScanEnd.{Clean}
 use Rattle.log_model.specs.ScanLaws.{IsRecordOf}
 use Rattle.log_model.specs.LogSelection.{LogAt}
-use Rattle.log_model.specs.FileTable.{Table, has_right_size, after_record, replay_log}
+use Rattle.log_model.specs.FileTable.{Table, after_record, replay_log}
 use Rattle.log_model.specs.Mounted.{recovered_entry, broken_rule, table_in, tree_of, mounted_in}
-use Rattle.log_model.specs.TableLaws.{IsTable}
+use Rattle.log_model.specs.TableLaws.{IsTable, AreSized}
 use Rattle.log_model.specs.AppendLaws.{IsSelectedOn, AppendsTo}
 use Rattle.log_model.specs.NewLogLaws.{IsNextSuperblock, FillsZone}
 
@@ -46,5 +45,5 @@ PartMounts = (i j : Image) (log : LogAt) (greatest k : ℕ) (payload : List ℕ)
 abbrev pub NewLogMounts : Type 0
 NewLogMounts = (i j : Image) (zone : ℕ) (log : LogAt) (greatest : ℕ) (payload snapshot : List ℕ) (s : Superblock) (es : Table) → IsSelectedOn i log greatest
     → IsNextSuperblock i greatest payload s → IsRecordOf i.geometry.block snapshot → record_of snapshot ≡ Ok (Snapshot es)
-    → IsTable es → AllByRecursion (λ e. has_right_size e ≡ true) es
+    → IsTable es → AreSized es
     → FillsZone zone (record_blocks i.geometry.block payload ++ record_blocks i.geometry.block snapshot) i j → broken_rule j es ≡ None → MountsTable j es

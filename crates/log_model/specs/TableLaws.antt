@@ -96,6 +96,14 @@ IsNamedRecord (Deletion id name) = ⊤
 IsNamedRecord End = ⊤
 IsNamedRecord (Replace e) = is_named e ≡ true
 
+-- each stated size is that of the file's extents
+abbrev pub AreSized : Table → Type 0
+AreSized es = AllByRecursion (λ e. has_right_size e ≡ true) es
+
 -- a record makes a table of a table
 abbrev pub RecordKeepsTable : Type 0
 RecordKeepsTable = (es next : Table) (r : Record) → IsTable es → IsNamedRecord r → after_record r es ≡ Ok next → IsTable next
+
+-- a record keeps the sizes right
+abbrev pub RecordKeepsSizes : Type 0
+RecordKeepsSizes = (es next : Table) (r : Record) → AreSized es → after_record r es ≡ Ok next → AreSized next

@@ -11,8 +11,8 @@ use Rattle.record_model.specs.declared.field.Field.{Field}
 use Rattle.record_model.specs.declared.field.Field.TheVariants.{Id, Size, Hint, Piece, Time, Active, Sparse, Linked}
 use Rattle.record_model.specs.declared.field.FieldKind.{FieldKind}
 use Rattle.record_model.specs.declared.field.FieldKind.TheVariants as kinds
-use Rattle.record_codec.specs.Draft.{EntryDraft, with_field, finished}
-use Rattle.record_codec.specs.DraftedField.{drafted_value_at, drafted_known, drafted_field_at, drafted_step, drafted_fields_at, drafted_entry_at}
+use Rattle.record_codec.specs.Draft.{EntryDraft, with_field, finished, has_drafted_tag, has_drafted_name}
+use Rattle.record_codec.specs.DraftedField.{drafted_field_at, drafted_step, drafted_fields_at, drafted_entry_at}
 use Rattle.record_codec.proofs.Drafts.{draft_of, draft_of-push, IsFresh, is_some-number_in, numbered_1, numbered_3, numbered_4, numbered_6, numbered_7, has_drafted_name-of}
 
 -- the value of a step that did not fail
@@ -56,8 +56,22 @@ name_at-same p q same c = behind (slice_at c)
     behind (Ok s) = rw (same s.0) refl
     behind (Err e) = refl
 
-drafted_value-same : (kind : FieldKind) (fs : List Field) (c : Cursor) → drafted_value_at kind (draft_of fs) c ≡ value_at kind fs c
-unfolding drafted_value_at
+-- the value of a field, where these fields stand before it
+abbrev pub seen_value : FieldKind → List Field → Cursor → Reads Field
+seen_value kind fs c = value_at kind (λ tag. has_tag tag fs) (λ name. has_name name fs) c
+
+-- the value behind a tag, where these fields stand before it
+abbrev pub seen_known : ℕ → Option FieldKind → List Field → Cursor → Reads Field
+seen_known tag kind fs c = known_value tag kind (λ t. has_tag t fs) (λ name. has_name name fs) c
+
+-- the same, where the fields of this draft do
+abbrev drafted_value : FieldKind → EntryDraft → Cursor → Reads Field
+drafted_value kind d c = value_at kind (λ tag. has_drafted_tag tag d) (λ name. has_drafted_name name d) c
+
+abbrev drafted_known : ℕ → Option FieldKind → EntryDraft → Cursor → Reads Field
+drafted_known tag kind d c = known_value tag kind (λ t. has_drafted_tag t d) (λ name. has_drafted_name name d) c
+
+drafted_value-same : (kind : FieldKind) (fs : List Field) (c : Cursor) → drafted_value kind (draft_of fs) c ≡ seen_value kind fs c
 drafted_value-same kinds.Id fs c = rw (is_some-number_in 1 numbered_1 fs) refl
 drafted_value-same kinds.Size fs c = rw (is_some-number_in 3 numbered_3 fs) refl
 drafted_value-same kinds.Hint fs c = rw (is_some-number_in 4 numbered_4 fs) refl
@@ -67,7 +81,7 @@ drafted_value-same kinds.Active fs c = rw (is_some-number_in 7 numbered_7 fs) re
 drafted_value-same kinds.Sparse fs c = refl
 drafted_value-same kinds.Linked fs c = name_at-same _ _ (λ name. has_drafted_name-of name fs) c
 
-drafted_known-same : (tag : ℕ) (kind : Option FieldKind) (fs : List Field) (c : Cursor) → drafted_known tag kind (draft_of fs) c ≡ known_value tag kind fs c
+drafted_known-same : (tag : ℕ) (kind : Option FieldKind) (fs : List Field) (c : Cursor) → drafted_known tag kind (draft_of fs) c ≡ seen_known tag kind fs c
 drafted_known-same tag None fs c = refl
 drafted_known-same tag (Some kind) fs c = drafted_value-same kind fs c
 
@@ -75,7 +89,7 @@ pub drafted_field-same : (fs : List Field) (c : Cursor) → drafted_field_at (dr
 unfolding drafted_field_at
 drafted_field-same fs c = behind (number w32 c)
   where
-    behind : (read : Reads ℕ) → (read >>= λ tag. drafted_known tag.0 (kind_of tag.0) (draft_of fs) tag.1) ≡ (read >>= λ tag. known_value tag.0 (kind_of tag.0) fs tag.1)
+    behind : (read : Reads ℕ) → (read >>= λ tag. drafted_known tag.0 (kind_of tag.0) (draft_of fs) tag.1) ≡ (read >>= λ tag. seen_known tag.0 (kind_of tag.0) fs tag.1)
     behind (Ok tag) = drafted_known-same tag.0 (kind_of tag.0) fs tag.1
     behind (Err e) = refl
 
@@ -91,7 +105,7 @@ single_new w tag there c x e =
     let b = bind_ok (once tag there) (λ t. Ok a.0) x a.2 in
     once_new tag there b.0 b.1
 
-value_new : (kind : FieldKind) (fs : List Field) (c : Cursor) (x : Field × Cursor) → value_at kind fs c ≡ Ok x → IsFresh x.0 fs
+value_new : (kind : FieldKind) (fs : List Field) (c : Cursor) (x : Field × Cursor) → seen_value kind fs c ≡ Ok x → IsFresh x.0 fs
 value_new kinds.Id fs c x e =
     let a = bind_ok (single w64 1 (has_tag 1 fs) c) (λ n. ranged (ltb n.0 (2 ^ 64 - 1)) n.0 >>= λ id. Ok (Id id, n.1)) x e in
     let b = bind_ok (ranged (ltb a.0.0 (2 ^ 64 - 1)) a.0.0) (λ id. Ok (Id id, a.0.1)) x a.2 in
@@ -124,13 +138,13 @@ value_new kinds.Linked fs c x e =
     let new : has_name named.0 fs ≡ false = subst (λ (name : List ℕ). has_name name fs ≡ false) same (once_new 9 (has_name a.0.0 fs) b.0 b.1) in
     subst (λ (y : Field × Cursor). IsFresh y.0 fs) (ok_is (Linked named.0, a.0.1) x named.2) new
 
-known_new : (tag : ℕ) (kind : Option FieldKind) (fs : List Field) (c : Cursor) (x : Field × Cursor) → known_value tag kind fs c ≡ Ok x → IsFresh x.0 fs
+known_new : (tag : ℕ) (kind : Option FieldKind) (fs : List Field) (c : Cursor) (x : Field × Cursor) → seen_known tag kind fs c ≡ Ok x → IsFresh x.0 fs
 known_new tag None fs c x e = absurd cc
 known_new tag (Some kind) fs c x e = value_new kind fs c x e
 
 pub field_new : (fs : List Field) (c : Cursor) (x : Field × Cursor) → field_at fs c ≡ Ok x → IsFresh x.0 fs
 field_new fs c x e =
-    let a = bind_ok (number w32 c) (λ tag. known_value tag.0 (kind_of tag.0) fs tag.1) x e in
+    let a = bind_ok (number w32 c) (λ tag. seen_known tag.0 (kind_of tag.0) fs tag.1) x e in
     known_new a.0.0 (kind_of a.0.0) fs a.0.1 x a.2
 
 -- ---- all the fields

@@ -9,7 +9,7 @@ use Rattle.std.proofs.lemmas.List.{append-nil, take-append-drop, length-append, 
 use Rattle.record_model.specs.Name.{is_name}
 use Rattle.record_model.specs.Numbers.{u32, u64}
 use Rattle.record_model.specs.Encoding.{tag_of, kind_tag, slice, value_bytes, field_bytes}
-use Rattle.record_model.specs.FieldDecoding.{Cursor, Reads, number, once, single, ranged, extent_of, slice_at, is_linked, has_tag, has_name, kind_of, value_at, known_value, field_at, fields_at, at_place, ◌>>=◌}
+use Rattle.record_model.specs.FieldDecoding.{Cursor, Reads, number, once, single, ranged, extent_of, slice_at, is_linked, has_tag, has_name, kind_of, field_at, fields_at, at_place, ◌>>=◌}
 use Rattle.record_model.specs.Grammar.{IsField, MayFollow, AreFields}
 use Rattle.record_model.specs.declared.types.Extent.{Extent}
 use Rattle.record_model.specs.declared.fault.DecodeFault.{DecodeFault}
@@ -18,7 +18,7 @@ use Rattle.record_model.specs.declared.field.Field.TheVariants.{Id, Size, Hint, 
 use Rattle.record_model.specs.declared.field.FieldKind.{FieldKind}
 use Rattle.record_model.specs.declared.field.FieldKind.TheVariants as kinds
 use Rattle.record_codec.proofs.Drafts.{IsFresh}
-use Rattle.record_codec.proofs.DraftedReading.{bind_ok, ok_is, field_new, piece_with, linked_with}
+use Rattle.record_codec.proofs.DraftedReading.{seen_value, seen_known, bind_ok, ok_is, field_new, piece_with, linked_with}
 use Rattle.record_codec.proofs.Numbers.{IsBytes, IsBytes-take, IsBytes-drop, Took, Took-then, wide32, wide64, number_takes, number_again}
 use Rattle.record_codec.proofs.Slices.{slice_takes, slice_again}
 
@@ -107,7 +107,7 @@ piece_bytes bytes len fits =
     let back = wide64.back (drop 8 bytes) (omega (arith, length-drop 8 bytes)) (IsBytes-drop 8 bytes fits) in
     ap (λ (x : List ℕ). x ++ u64 (from_le_bytes w64 (drop 8 bytes))) front ∙ ap (λ (x : List ℕ). take 8 bytes ++ x) back ∙ take-append-drop 8 bytes
 
-value_takes : (kind : FieldKind) (fs : List Field) (c : Cursor) (x : Field × Cursor) → IsBytes c.rest → value_at kind fs c ≡ Ok x → IsRead kind c.rest x.0 x.1.rest
+value_takes : (kind : FieldKind) (fs : List Field) (c : Cursor) (x : Field × Cursor) → IsBytes c.rest → seen_value kind fs c ≡ Ok x → IsRead kind c.rest x.0 x.1.rest
 value_takes kinds.Id fs c x fits e =
     let a = bind_ok (single w64 1 (has_tag 1 fs) c) (λ n. ranged (ltb n.0 (2 ^ 64 - 1)) n.0 >>= λ id. Ok (Id id, n.1)) x e in
     let b = bind_ok (ranged (ltb a.0.0 (2 ^ 64 - 1)) a.0.0) (λ id. Ok (Id id, a.0.1)) x a.2 in
@@ -164,7 +164,7 @@ value_takes kinds.Linked fs c x fits e =
     subst (λ (y : Field × Cursor). IsRead kinds.Linked c.rest y.0 y.1.rest) (ok_is (Linked d.0, a.0.1) x d.2)
     (subst (λ (f : Field). IsRead kinds.Linked c.rest f a.0.1.rest) same (record { took = s.took; in_range = r.0; tag = refl }))
 
-known_takes : (tag : ℕ) (kind : Option FieldKind) (fs : List Field) (c : Cursor) (x : Field × Cursor) → kind_of tag ≡ kind → IsBytes c.rest → known_value tag kind fs c ≡ Ok x
+known_takes : (tag : ℕ) (kind : Option FieldKind) (fs : List Field) (c : Cursor) (x : Field × Cursor) → kind_of tag ≡ kind → IsBytes c.rest → seen_known tag kind fs c ≡ Ok x
     → Took c.rest (value_bytes x.0) x.1.rest × IsField x.0 × (tag_of x.0 ≡ tag)
 known_takes tag None fs c x of_tag fits e = absurd cc
 known_takes tag (Some kind) fs c x of_tag fits e =
@@ -179,7 +179,7 @@ pub record IsFieldRead (fs : List Field) (bytes : List ℕ) (f : Field) (rest : 
 
 pub field_takes : (fs : List Field) (c : Cursor) (x : Field × Cursor) → IsBytes c.rest → field_at fs c ≡ Ok x → IsFieldRead fs c.rest x.0 x.1.rest
 field_takes fs c x fits e =
-    let a = bind_ok (number w32 c) (λ tag. known_value tag.0 (kind_of tag.0) fs tag.1) x e in
+    let a = bind_ok (number w32 c) (λ tag. seen_known tag.0 (kind_of tag.0) fs tag.1) x e in
     let t = number_takes w32 (2 ^ 32) wide32 c a.0 fits a.1 in
     let v = known_takes a.0.0 (kind_of a.0.0) fs a.0.1 x refl t.0.rest_fits a.2 in
     let both = Took-then c.rest (u32 a.0.0) a.0.1.rest (value_bytes x.0) x.1.rest t.0 v.0 in
@@ -192,13 +192,13 @@ field_takes fs c x fits e =
 -- ---- a field that was written
 
 tag_again : (fs : List Field) (at tag : ℕ) (value rest : List ℕ) (kind : FieldKind) (x : Field × Cursor) → tag < 2 ^ 32 → kind_of tag ≡ Some kind
-    → value_at kind fs (record { at = at + 4; rest = value ++ rest }) ≡ Ok x → field_at fs (record { at = at; rest = (u32 tag ++ value) ++ rest }) ≡ Ok x
+    → seen_value kind fs (record { at = at + 4; rest = value ++ rest }) ≡ Ok x → field_at fs (record { at = at; rest = (u32 tag ++ value) ++ rest }) ≡ Ok x
 tag_again fs at tag value rest kind x lt of_tag read =
     let regrouped : (u32 tag ++ value) ++ rest ≡ u32 tag ++ (value ++ rest) = append_assoc (u32 tag) value rest in
     let number_read = number_again w32 (2 ^ 32) wide32 at tag (value ++ rest) lt in
     ap (λ (bytes : List ℕ). field_at fs (record { at = at; rest = bytes })) regrouped ∙ go_on (number w32 (record { at = at; rest = u32 tag ++ (value ++ rest) })) number_read
   where
-    go_on : (r : Reads ℕ) → r ≡ Ok (tag, record { at = at + 4; rest = value ++ rest }) → (r >>= λ t. known_value t.0 (kind_of t.0) fs t.1) ≡ Ok x
+    go_on : (r : Reads ℕ) → r ≡ Ok (tag, record { at = at + 4; rest = value ++ rest }) → (r >>= λ t. seen_known t.0 (kind_of t.0) fs t.1) ≡ Ok x
     go_on r e = rw (e, of_tag) read
 
 -- the place behind is none that matters here

@@ -8,8 +8,6 @@ use Rattle.record_model.specs.declared.types.Extent.{Extent}
 use Rattle.record_model.specs.declared.types.FileEntry.{FileEntry}
 use Rattle.record_model.specs.declared.field.Field.{Field}
 use Rattle.record_model.specs.declared.field.Field.TheVariants.{Id, Size, Hint, Piece, Time, Active, Sparse, Linked}
-use Rattle.record_model.specs.declared.field.FieldKind.{FieldKind}
-use Rattle.record_model.specs.declared.field.FieldKind.TheVariants as kinds
 use Rattle.record_model.specs.declared.fault.DecodeFault.{DecodeFault}
 use Rattle.record_model.specs.declared.fault.Why.TheVariants.{Missing}
 
@@ -39,16 +37,11 @@ with_field (Active n) d = record d { active = Some n }
 with_field Sparse d = record d { sparse = true }
 with_field (Linked name) d = record d { names = d.names ++ name ∷ [] }
 
--- a field that may stand once is there
-abbrev pub has_kind : FieldKind → EntryDraft → Bool
-has_kind kinds.Id d = is_some d.id
-has_kind kinds.Size d = is_some d.size
-has_kind kinds.Hint d = is_some d.hint
-has_kind kinds.Piece d = false
-has_kind kinds.Time d = is_some d.time
-has_kind kinds.Active d = is_some d.active
-has_kind kinds.Sparse d = d.sparse
-has_kind kinds.Linked d = false
+-- a field with this tag that may stand once is there
+abbrev pub has_drafted_tag : ℕ → EntryDraft → Bool
+has_drafted_tag tag d =
+    if tag == 1 then is_some d.id else if tag == 3 then is_some d.size else if tag == 4 then is_some d.hint
+    else if tag == 6 then is_some d.time else if tag == 7 then is_some d.active else if tag == 8 then d.sparse else false
 
 -- this name is there
 abbrev pub has_drafted_name : List ℕ → EntryDraft → Bool

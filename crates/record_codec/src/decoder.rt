@@ -20,7 +20,7 @@ use crate::entry::{entries_at, entry_at, inside_at, placed};
 use crate::error::{DecodeError, FieldError};
 use crate::field::name_of;
 use crate::value::{slice_at, u32_at, u64_at};
-use record_model::{DecodeFault, Files, NO_ACTIVE, Record, RecordKind, Why};
+use record_model::{DecodeFault, Files, MAX_ID, Record, RecordKind, Why};
 use std::alloc::Global;
 
 /// What a payload is refused with that has more bytes than the length before it can say: its first
@@ -121,7 +121,7 @@ fn deletion_at(alloc: Global, c: Cursor<'_>) -> Result<Record, DecodeError>
     ensures { Gives result (deletion_at (place c.entry)) }
 {
     let (id, after) = placed(c.at, u64_at(c))?;
-    if id == NO_ACTIVE {
+    if id > MAX_ID {
         return Err(DecodeError::Bad(DecodeFault {
             at: c.at,
             why: Why::Range,

@@ -1,7 +1,8 @@
 //! The fields of an entry that were read so far, kept by kind.
 
 ghost use Rattle.std.specs.Prelude.{◌≡◌, OnOk};
-ghost use Rattle.record_codec.specs.Draft.{empty_draft, with_field, has_kind, has_drafted_name, finished, missing, required};
+ghost use Rattle.record_model.specs.Encoding.{kind_tag};
+ghost use Rattle.record_codec.specs.Draft.{empty_draft, with_field, has_drafted_tag, has_drafted_name, finished, missing, required};
 ghost use Rattle.record_codec.specs.Outcome.{Returns};
 
 use record_model::{DecodeFault, Extent, Extents, Field, FieldKind, FileEntry, Name, Names, Why};
@@ -57,7 +58,7 @@ impl Draft {
 
     /// Whether a field that may stand once is there.
     pub(crate) fn has(&self, kind: FieldKind) -> bool
-        ensures { result ≡ has_kind kind self.now }
+        ensures { result ≡ has_drafted_tag (kind_tag kind) self.now }
     {
         match kind {
             FieldKind::Id => self.id.is_some(),
@@ -95,8 +96,8 @@ impl Draft {
         Ok(())
     }
 
-    #[tactic(auto, unfolding(crate::specs::Draft::finished))]
     /// The entry that has these fields, or the least tag that is wanting, at the entry's place.
+    #[tactic(auto, unfolding(crate::specs::Draft::finished))]
     pub(crate) fn finish(self, at: u32) -> Result<FileEntry, DecodeFault>
         ensures { Returns (λ e. e) result (finished at self) }
     {

@@ -46,7 +46,7 @@ pub(crate) fn entry_at(alloc: Global, c: Cursor<'_>) -> Result<FileEntry, Decode
     drafted_entry_at(alloc, c)
 }
 
-/// The entry of all the fields.
+/// The same, by the definition that keeps the fields by kind.
 #[tactic(auto, unfolding(crate::specs::DraftedField::drafted_entry_at))]
 fn drafted_entry_at(alloc: Global, c: Cursor<'_>) -> Result<FileEntry, DecodeError>
     ensures { Gives result (drafted_entry_at (place c.entry)) }

@@ -2,11 +2,11 @@
 
 ghost use Rattle.std.specs.Prelude.{◌≡◌, ◌<◌, ◌≤◌, length, IfOk};
 ghost use Rattle.std.specs.Int.{w32, w64};
-ghost use Rattle.record_model.specs.FieldDecoding.{once, ranged, piece_at, name_at};
+ghost use Rattle.record_model.specs.FieldDecoding.{once, single, ranged, piece_at, name_at, value_at};
 ghost use Rattle.record_model.specs.Encoding.{kind_tag};
 ghost use Rattle.record_model.specs.Name.{is_name};
-ghost use Rattle.record_codec.specs.Draft.{has_kind, has_drafted_name};
-ghost use Rattle.record_codec.specs.DraftedField.{drafted_single, drafted_value_at, drafted_field_at};
+ghost use Rattle.record_codec.specs.Draft.{has_drafted_tag, has_drafted_name};
+ghost use Rattle.record_codec.specs.DraftedField.{drafted_field_at};
 ghost use Rattle.record_codec.specs.Outcome.{Returns, GivesField};
 ghost use Rattle.record_codec.specs.Place.{place};
 
@@ -14,7 +14,7 @@ use crate::cursor::Cursor;
 use crate::draft::Draft;
 use crate::error::FieldError;
 use crate::value::{slice_at, u32_at, u64_at};
-use record_model::{Extent, Field, FieldKind, NO_ACTIVE, Name, NameError, Why};
+use record_model::{Extent, Field, FieldKind, MAX_ID, Name, NameError, Why};
 use std::alloc::Global;
 
 /// The greatest lifetime hint.
@@ -41,20 +41,20 @@ pub(crate) fn field_at<'a>(
 }
 
 /// The value here of a field of this kind.
-#[tactic(auto, unfolding(crate::specs::DraftedField::drafted_value_at))]
 fn value_at<'a>(
     alloc: Global,
     kind: FieldKind,
     seen: &Draft,
     c: Cursor<'a>,
 ) -> Result<(Field, Cursor<'a>), FieldError>
-    ensures value { GivesField (λ x. (x.0, place x.1)) result (drafted_value_at kind seen.now (place c.entry)) }
+    ensures value { GivesField (λ x. (x.0, place x.1)) result
+        (value_at kind (λ tag. has_drafted_tag tag seen.now) (λ name. has_drafted_name name seen.now) (place c.entry)) }
     ensures forward { IfOk result (λ x. length x.1.rest.now ≤ length c.entry.rest.now) }
 {
     match kind {
         FieldKind::Id => {
             let (id, c) = single_u64(kind, seen, c)?;
-            ranged(id != NO_ACTIVE)?;
+            ranged(id <= MAX_ID)?;
             Ok((Field::Id(id), c))
         }
         FieldKind::Size => {
@@ -88,7 +88,7 @@ fn value_at<'a>(
 
 /// The 64-bit number here, where no field of its kind stands before it.
 fn single_u64<'a>(kind: FieldKind, seen: &Draft, c: Cursor<'a>) -> Result<(u64, Cursor<'a>), Why>
-    ensures value { Returns (λ x. (x.0, place x.1)) result (drafted_single w64 kind seen.now (place c.entry)) }
+    ensures value { Returns (λ x. (x.0, place x.1)) result (single w64 (kind_tag kind) (has_drafted_tag (kind_tag kind) seen.now) (place c.entry)) }
     ensures forward { IfOk result (λ x. length x.1.rest.now ≤ length c.entry.rest.now) }
 {
     let (number, c) = u64_at(c)?;
@@ -98,7 +98,7 @@ fn single_u64<'a>(kind: FieldKind, seen: &Draft, c: Cursor<'a>) -> Result<(u64, 
 
 /// The 32-bit number here, where no field of its kind stands before it.
 fn single_u32<'a>(kind: FieldKind, seen: &Draft, c: Cursor<'a>) -> Result<(u32, Cursor<'a>), Why>
-    ensures value { Returns (λ x. (x.0, place x.1)) result (drafted_single w32 kind seen.now (place c.entry)) }
+    ensures value { Returns (λ x. (x.0, place x.1)) result (single w32 (kind_tag kind) (has_drafted_tag (kind_tag kind) seen.now) (place c.entry)) }
     ensures forward { IfOk result (λ x. length x.1.rest.now ≤ length c.entry.rest.now) }
 {
     let (number, c) = u32_at(c)?;
@@ -108,7 +108,7 @@ fn single_u32<'a>(kind: FieldKind, seen: &Draft, c: Cursor<'a>) -> Result<(u32, 
 
 /// Refuses a field of a kind that is there already.
 fn once(kind: FieldKind, seen: &Draft) -> Result<(), Why>
-    ensures { Returns (λ _. kind_tag kind) result (once (kind_tag kind) (has_kind kind seen.now)) }
+    ensures { Returns (λ _. kind_tag kind) result (once (kind_tag kind) (has_drafted_tag (kind_tag kind) seen.now)) }
 {
     if seen.has(kind) {
         return Err(Why::Twice(kind.tag()));

@@ -17,8 +17,8 @@ pub use encoder::encode;
 pub use error::DecodeError;
 pub use length::encoded_len;
 pub use record_model::{
-    DecodeFault, Extent, Extents, FileEntry, Files, NO_ACTIVE, Name, NameError, Names, Payload,
-    Record, Why,
+    DecodeFault, Extent, Extents, FileEntry, Files, MAX_ID, NO_ACTIVE, Name, NameError, Names,
+    Payload, Record, Why,
 };
 
 #[cfg(test)]

@@ -121,41 +121,45 @@ kind_of tag =
     else if tag == 5 then Some kinds.Piece else if tag == 6 then Some kinds.Time else if tag == 7 then Some kinds.Active
     else if tag == 8 then Some kinds.Sparse else if tag == 9 then Some kinds.Linked else None
 
--- the value of a field of this kind, where these fields stand before it
-abbrev pub value_at : FieldKind → List Field → Cursor → Reads Field
-value_at kinds.Id seen c = do
-  n ← single w64 1 (has_tag 1 seen) c
+-- the value of a field of this kind, where these tests tell the tags and the names that stand before it
+abbrev pub value_at : FieldKind → (ℕ → Bool) → (List ℕ → Bool) → Cursor → Reads Field
+value_at kinds.Id there named c = do
+  n ← single w64 1 (there 1) c
   id ← ranged (nat_lt n.0 (2 ^ 64 - 1)) n.0
   Ok (Id id, n.1)
-value_at kinds.Size seen c = do
-  n ← single w64 3 (has_tag 3 seen) c
+value_at kinds.Size there named c = do
+  n ← single w64 3 (there 3) c
   Ok (Size n.0, n.1)
-value_at kinds.Hint seen c = do
-  n ← single w32 4 (has_tag 4 seen) c
+value_at kinds.Hint there named c = do
+  n ← single w32 4 (there 4) c
   hint ← ranged (nat_le n.0 5) n.0
   Ok (Hint hint, n.1)
-value_at kinds.Piece seen c = piece_at c
-value_at kinds.Time seen c = do
-  n ← single w64 6 (has_tag 6 seen) c
+value_at kinds.Piece there named c = piece_at c
+value_at kinds.Time there named c = do
+  n ← single w64 6 (there 6) c
   Ok (Time n.0, n.1)
-value_at kinds.Active seen c = do
-  n ← single w64 7 (has_tag 7 seen) c
+value_at kinds.Active there named c = do
+  n ← single w64 7 (there 7) c
   Ok (Active n.0, n.1)
-value_at kinds.Sparse seen c = do
-  t ← once 8 (has_tag 8 seen)
+value_at kinds.Sparse there named c = do
+  t ← once 8 (there 8)
   Ok (Sparse, c)
-value_at kinds.Linked seen c = name_at (λ name. has_name name seen) c
+value_at kinds.Linked there named c = name_at named c
 
 -- the value behind a tag that is known
-abbrev pub known_value : ℕ → Option FieldKind → List Field → Cursor → Reads Field
-known_value tag None seen c = Err (Tag tag)
-known_value tag (Some kind) seen c = value_at kind seen c
+abbrev pub known_value : ℕ → Option FieldKind → (ℕ → Bool) → (List ℕ → Bool) → Cursor → Reads Field
+known_value tag None there named c = Err (Tag tag)
+known_value tag (Some kind) there named c = value_at kind there named c
 
--- a whole field
-abbrev pub field_at : List Field → Cursor → Reads Field
-field_at seen c = do
+-- a whole field, by the same tests
+abbrev pub field_by : (ℕ → Bool) → (List ℕ → Bool) → Cursor → Reads Field
+field_by there named c = do
   tag ← number w32 c
-  known_value tag.0 (kind_of tag.0) seen tag.1
+  known_value tag.0 (kind_of tag.0) there named tag.1
+
+-- a whole field, where these fields stand before it
+abbrev pub field_at : List Field → Cursor → Reads Field
+field_at seen c = field_by (λ tag. has_tag tag seen) (λ name. has_name name seen) c
 
 -- the fields to the end of the bytes, behind those that were seen; each takes at least four bytes, so k bounds them
 abbrev pub fields_at : ℕ → List Field → Cursor → Result (List Field) DecodeFault

@@ -5,8 +5,11 @@ ghost use Rattle.std.specs.Prelude.{◌≡◌};
 use crate::name::Name;
 use std::marker::Model;
 
-/// The active extent start of a file that has no active extent, and no file's id.
+/// The active extent start of a file that has no active extent.
 pub const NO_ACTIVE: u64 = u64::MAX;
+
+/// The greatest id of a file.
+pub const MAX_ID: u64 = u64::MAX - 1;
 
 /// A run of bytes of one zone: where it starts on the device, and its length, both in bytes.
 #[derive(Clone, Copy, Debug, PartialEq, Eq)]
@@ -79,7 +82,7 @@ impl Names {
 /// A file as it stands in a record.
 #[derive(Debug, Drop)]
 pub struct FileEntry {
-    /// The file's number, below 2^64 - 1 in a record.
+    /// The file's number, at most `MAX_ID` in a record.
     pub id: u64,
     /// The bytes of all the file's extents, also of those that this record leaves out.
     pub size: u64,

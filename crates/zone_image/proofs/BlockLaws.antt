@@ -1,5 +1,5 @@
 -- Bytes as blocks: all arithmetic with the size of a block stands here.
-use Rattle.std.proofs.Common.{◌≡◌, ℕ, zero, suc, ◌+◌, ◌-◌, ◌*◌, ◌/◌, ◌%◌, ◌<◌, ◌≤◌, ◌⊎◌, ⊎_elim, List, [], ◌∷◌, ◌++◌, length, take, drop, refl, sym, ◌∙◌, ap, arith, length-drop}
+use Rattle.std.proofs.Common.{◌≡◌, ℕ, zero, suc, ◌+◌, ◌-◌, ◌*◌, ◌/◌, ◌%◌, ◌<◌, ◌≤◌, ⊎_elim, List, [], ◌∷◌, ◌++◌, length, take, drop, refl, sym, ◌∙◌, ap, arith, length-drop}
 use Rattle.std.specs.List.{All, concat}
 use Rattle.std.proofs.lemmas.List.{take_all, nil_from_length, take-append-le, drop-append-le, take-take, drop-take, length-take-le, drop-drop}
 use Rattle.std.proofs.lemmas.List.Elements.{All-nil, All-cons}

@@ -1,5 +1,5 @@
 -- What a crash leaves of an image that is synced, of one that a crash left, and of one that a call changed.
-use Rattle.std.proofs.Common.{◌≡◌, ℕ, zero, suc, ◌+◌, ◌<◌, ◌≤◌, ◌⊎◌, inl, inr, Bool, true, false, not, ◌&&◌, cond, List, [], ◌∷◌, ◌++◌, length, map, take, min, max, refl, sym, ◌∙◌, ap, subst, arith, length-take}
+use Rattle.std.proofs.Common.{◌≡◌, ℕ, ◌<◌, ◌≤◌, ◌⊎◌, inl, inr, Bool, true, false, not, ◌&&◌, cond, List, [], ◌∷◌, length, map, take, refl, sym, ◌∙◌, ap, subst, arith, length-take}
 use Rattle.std.specs.List.{All, AllZip}
 use Rattle.std.proofs.lemmas.List.{take_all, length-map, length-take-le}
 use Rattle.std.proofs.lemmas.List.Elements.{All-cons, All-head, All-tail, All-take, All-same, length_all_zip}
@@ -11,7 +11,7 @@ use Rattle.std.specs.Prelude.{IsTrue}
 use Rattle.zone_image.specs.declared.ZoneInfo.{ZoneInfo}
 use Rattle.zone_image.specs.Image.{is_valid, Zone, Image, ZoneCrash, IsCrash}
 use Rattle.zone_image.specs.Changes.{zone_synced, synced, blocks_left, zone_crashed, zones_crashed, crashed}
-use Rattle.zone_image.specs.Infos.{info_of, infos_of, is_active_info, active_zones, IsPossibleInfo, IsPossible, IsZone, IsValidImage}
+use Rattle.zone_image.specs.Infos.{info_of, infos_of, is_active_info, active_zones, IsPossibleInfo, IsZone, IsValidImage}
 
 abbrev one_if : Bool → ℕ
 one_if b = cond b 1 0

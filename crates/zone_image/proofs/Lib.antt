@@ -1,3 +1,4 @@
+pub mod AppendLaws
 pub mod BlockLaws
 pub mod CrashLaws
 pub mod ImageLaws

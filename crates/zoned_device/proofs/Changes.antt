@@ -1,17 +1,17 @@
 -- What a changing call of a device in memory passes.
-use Rattle.std.proofs.Common.{◌≡◌, ◌⊎◌, inl, inr, ⊎_elim, ℕ, zero, suc, ◌+◌, ◌<◌, ◌≤◌, Bool, true, false, List, [], ◌∷◌, ◌++◌, length, take, get_or, set, Option, None, Some, refl, sym, ◌∙◌, ap, subst, arith, length-take}
+use Rattle.std.proofs.Common.{◌≡◌, inl, inr, ℕ, zero, suc, ◌+◌, ◌<◌, ◌≤◌, false, List, [], ◌∷◌, ◌++◌, length, take, None, Some, refl, sym, ◌∙◌, ap, subst, arith, length-take}
 use Rattle.std.specs.List.{All}
 use Rattle.std.specs.Prelude.{◌==◌, ◌||◌, if◌then◌else◌}
 use Rattle.std.proofs.lemmas.Bool.{ne_eqb}
 use Rattle.std.proofs.lemmas.List.{append-nil, take_all, take-take, length-map}
 use Rattle.std.proofs.lemmas.List.Elements.{All-take}
-use Rattle.zone_image.specs.Image.{Zone, Image, IsCrash, zone_in, zone_at, no_zone}
+use Rattle.zone_image.specs.Image.{Zone, Image, IsCrash, zone_in, zone_at}
 use Rattle.zone_image.specs.Changes.{change_at, zone_appended, appended}
 use Rattle.zone_image.specs.Infos.{info_of, infos_of, info_at, active_zones, IsValidImage}
 use Rattle.zone_image.specs.Moments.{PassedByAppend}
 use Rattle.zone_image.proofs.InfoLaws.{info_at_is, valid_appended, valid_finished, valid_emptied, valid_synced}
 use Rattle.zone_image.proofs.CrashLaws.{crash_before_sync}
-use Rattle.zoned_device.specs.Content.{Change, Append, Finish, Reset, Sync, Event, Content, after, Passes, LeftBy, AllBefore, part_of}
+use Rattle.zoned_device.specs.Content.{Change, Append, Finish, Reset, Sync, after, Passes, part_of}
 
 -- the conditions of an append of blocks
 pub record CanAppend (i : Image) (zone : ℕ) (added : List (List ℕ)) : Type 0 where

@@ -1,16 +1,14 @@
 -- The clauses of an append.
-use Rattle.std.proofs.Common.{◌≡◌, ◌⊎◌, inl, inr, ⊎_elim, ℕ, ◌+◌, ◌*◌, ◌/◌, ◌%◌, ◌≤◌, ◌<◌, min, false, List, length, take, get_or, set, refl, sym, ◌∙◌, ap, subst, arith, length-take}
+use Rattle.std.proofs.Common.{◌≡◌, ◌⊎◌, inl, inr, ⊎_elim, ℕ, ◌+◌, ◌*◌, ◌/◌, ◌%◌, ◌≤◌, ◌<◌, min, false, List, length, take, sym, ◌∙◌, ap, subst, arith, length-take}
 use Rattle.std.proofs.lemmas.Bool.{cases_eq}
 use Rattle.std.proofs.lemmas.Nat.{div-add-mod'}
-use Rattle.std.proofs.lemmas.List.{take_all, take_min, take-take, length-take-le, length-map, get_or-set_same}
-use Rattle.zone_image.specs.declared.Geometry.{Geometry}
+use Rattle.std.proofs.lemmas.List.{take_all, take_min, take-take, length-take-le, get_or-set_same}
 use Rattle.zone_image.specs.declared.ZoneInfo.{ZoneInfo}
 use Rattle.zone_image.specs.Image.{Image, IsCrash}
-use Rattle.zone_image.specs.Changes.{blocks_in, change_at, appended}
-use Rattle.zone_image.specs.Infos.{no_info, info_of, info_at, infos_of, active_zones, info_appended, infos_appended, IsValidImage, Shows, ShowsSome}
-use Rattle.zone_image.specs.Moments.{PassedByAppend}
+use Rattle.zone_image.specs.Changes.{blocks_in, appended}
+use Rattle.zone_image.specs.Infos.{no_info, info_at, infos_of, active_zones, info_appended, infos_appended, IsValidImage, ShowsSome}
 use Rattle.zone_image.proofs.BlockLaws.{length-blocks_in, All-blocks_in}
-use Rattle.zone_image.proofs.ImageLaws.{change_at_is, length-change_at}
+use Rattle.zone_image.proofs.ImageLaws.{change_at_is}
 use Rattle.zone_image.proofs.InfoLaws.{infos-appended}
 use Rattle.zoned_device.specs.Content.{Change, Append, after, Passes}
 use Rattle.zoned_device.proofs.Changes.{CanAppend, append_nothing}

@@ -1,14 +1,14 @@
 -- The clauses of a changing call, from what it makes of the content and the counts.
-use Rattle.std.proofs.Common.{◌≡◌, ◌⊎◌, inl, inr, ⊎_elim, ℕ, ◌+◌, ◌≤◌, ◌<◌, Bool, true, false, List, length, take, Option, None, Some, Result, Ok, Err, refl, sym, ◌∙◌, ap, subst, arith}
-use Rattle.std.specs.Prelude.{is_ok, OnOk, OnErr}
-use Rattle.zone_image.specs.Counts.{last_tick, next_tick}
+use Rattle.std.proofs.Common.{◌≡◌, ◌⊎◌, inl, inr, ⊎_elim, ℕ, ◌≤◌, ◌<◌, Bool, true, false, Option, Some, Result, Ok, Err, refl, sym, ◌∙◌, ap, subst, arith}
+use Rattle.std.specs.Prelude.{is_ok, IsErr, OnOk, OnErr}
+use Rattle.zone_image.specs.Counts.{next_tick}
 use Rattle.zone_image.specs.Image.{Image, IsCrash}
-use Rattle.zone_image.specs.Changes.{appended, finished, emptied, synced}
-use Rattle.zone_image.specs.Infos.{infos_of, infos_appended, infos_finished, infos_emptied, IsValidImage, Shows, ShowsSome}
+use Rattle.zone_image.specs.Changes.{finished, emptied}
+use Rattle.zone_image.specs.Infos.{infos_of, infos_finished, infos_emptied, IsValidImage, Shows}
 use Rattle.zone_image.specs.Moments.{LeavesOnly}
-use Rattle.zone_image.proofs.InfoLaws.{infos-appended, infos-finished, infos-emptied, infos-synced}
+use Rattle.zone_image.proofs.InfoLaws.{infos-finished, infos-emptied, infos-synced}
 use Rattle.zoned_device.specs.CallState.{CallState, IsWithinLimits, fault_of}
-use Rattle.zoned_device.specs.Content.{Change, Append, Finish, Reset, Sync, Content, after, Passes, AllBefore, LeftBy, with_change, part_of, content_after, is_done, calls_after}
+use Rattle.zoned_device.specs.Content.{Change, Finish, Reset, Sync, Content, after, Passes, AllBefore, LeftBy, with_change, content_after, is_done, calls_after}
 use Rattle.zoned_device.specs.MemState.{MemState, image_of, tick_of, since_of, IsKnown, BeganBefore}
 use Rattle.zoned_device.proofs.Changes.{CanDo}
 use Rattle.zoned_device.proofs.MemCalls.{IsFront, part_is, outcome, valid, began, leaves, same_geometry, done_whole, rises}
@@ -114,3 +114,8 @@ module _ (old : MemState) (o : Option Content) (s calls : CallState) (is : ◌�
 
   pub quiet_leaves : LeavesOnly tick_of since_of old (record { content = o; calls = calls }) (IsCrash (image_of old))
   quiet_leaves = subst (λ (m : MemState). LeavesOnly tick_of since_of m (record { content = o; calls = calls }) (IsCrash (image_of m))) is (leaves_same o s calls quiet_later all)
+
+-- a call fails exactly where it doesn't pass
+pub fails_where : {T E : Type 0} (r : Result T E) (passes done : Bool) → passes ≡ done → is_ok r ≡ done → (IsErr r → passes ≡ false) × (passes ≡ false → IsErr r)
+fails_where (Ok x) passes done same answer = (λ err. cc, λ failed. cc)
+fails_where (Err e) passes done same answer = (λ err. same ∙ sym answer, λ failed. refl)

@@ -1,12 +1,12 @@
 -- What crashes within the calls of a device in memory may leave.
-use Rattle.std.proofs.Common.{◌≡◌, ◌⊎◌, inl, inr, ⊎_elim, ℕ, ◌+◌, ◌-◌, ◌^◌, ◌<◌, ◌≤◌, List, [], ◌∷◌, ◌++◌, Option, None, Some, refl, sym, ◌∙◌, ap, subst, arith}
+use Rattle.std.proofs.Common.{◌⊎◌, inl, inr, ⊎_elim, ℕ, ◌<◌, ◌≤◌, List, [], ◌∷◌, ◌++◌, Option, None, Some, arith}
 use Rattle.zone_image.specs.Counts.{next_tick, last_tick}
 use Rattle.zone_image.specs.Image.{Image, IsCrash}
 use Rattle.zone_image.specs.Infos.{IsValidImage}
 use Rattle.zone_image.specs.Moments.{LeavesOnly}
 use Rattle.zoned_device.specs.CallState.{CallState}
-use Rattle.zoned_device.specs.Content.{Change, Event, Content, after, Passes, LeftBy, AllBefore, with_change}
-use Rattle.zoned_device.specs.MemState.{MemState, tick_of, since_of, LeftOf, BeganBefore, standing_in}
+use Rattle.zoned_device.specs.Content.{Change, Event, Content, Passes, LeftBy, AllBefore, with_change}
+use Rattle.zoned_device.specs.MemState.{tick_of, since_of, LeftOf, BeganBefore, standing_in}
 use Rattle.zoned_device.specs.MemLaws.{earlier_of}
 use Rattle.zoned_device.proofs.Changes.{CanDo, passes_before, passes_after}
 

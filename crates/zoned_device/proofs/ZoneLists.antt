@@ -1,8 +1,8 @@
 -- Loops over the zones of an image.
-use Rattle.std.proofs.Common.{◌≡◌, ℕ, zero, suc, ◌+◌, ◌*◌, ◌<◌, ◌≤◌, min, max, Bool, List, [], ◌∷◌, ◌++◌, length, map, take, drop, get_or, set, refl, sym, ◌∙◌, ap, subst, arith, append_assoc}
+use Rattle.std.proofs.Common.{◌≡◌, ℕ, zero, suc, ◌+◌, ◌*◌, ◌<◌, min, max, Bool, List, [], ◌∷◌, ◌++◌, length, take, drop, get_or, set, refl, sym, ◌∙◌, ap, arith, append_assoc}
 use Rattle.std.proofs.lemmas.List.{set_at, drop_more, take_more, length-take-le, take_all, drop_all, append-nil}
 use Rattle.zone_image.specs.Image.{Zone, no_zone}
-use Rattle.zone_image.specs.Changes.{chunks, blocks_left, zone_crashed, zones_crashed}
+use Rattle.zone_image.specs.Changes.{chunks, zone_crashed, zones_crashed}
 use Rattle.zone_image.proofs.BlockLaws.{length-chunks, take-chunks, chunks-take}
 
 -- the first items are copied

@@ -1,5 +1,5 @@
 -- Which calls of a device in memory fail.
-use Rattle.std.specs.Prelude.{ℕ, ◌-◌, ◌^◌, ◌≤◌, Bool, true, false, List, [], ◌∷◌, Option, None, Some, Result, nat_le, ◌==◌, if◌then◌else◌}
+use Rattle.std.specs.Prelude.{ℕ, ◌-◌, ◌^◌, ◌≤◌, Bool, false, List, [], ◌∷◌, Option, None, Some, nat_le, ◌==◌, if◌then◌else◌}
 use Rattle.zone_image.specs.Counts.{next_count, next_tick, last_tick}
 use Rattle.zoned_device.specs.declared.failing.Failing.{Failing}
 

@@ -1,5 +1,5 @@
 -- What a device in memory holds: its image, and how it came to be.
-use Rattle.std.specs.Prelude.{◌≡◌, ◌⊎◌, ℕ, ◌==◌, ◌+◌, ◌*◌, ◌<◌, ◌≤◌, Bool, ◌&&◌, List, [], ◌∷◌, ◌++◌, length, take, Option, None, Some, nat_lt, nat_le, if◌then◌else◌, is_none}
+use Rattle.std.specs.Prelude.{◌⊎◌, ℕ, ◌==◌, ◌+◌, ◌*◌, ◌<◌, ◌≤◌, Bool, ◌&&◌, List, [], ◌∷◌, ◌++◌, length, take, Option, None, Some, nat_lt, nat_le, if◌then◌else◌, is_none}
 use Rattle.zone_image.specs.declared.Geometry.{Geometry}
 use Rattle.zone_image.specs.Address.{device_bytes}
 use Rattle.zone_image.specs.Image.{Image, IsCrash}
@@ -60,9 +60,13 @@ most_changes = 65536
 abbrev pub most_bytes : Geometry → ℕ
 most_bytes g = 4 * device_bytes g
 
--- there is room for a change more
+-- there is room for a change more that writes so many bytes
+abbrev pub room_for : Content → ℕ → Bool
+room_for c bytes = nat_lt c.changes most_changes && nat_le (c.bytes + bytes) (most_bytes c.standing.geometry)
+
+-- there is room for this change
 abbrev pub has_room : Content → Change → Bool
-has_room c ch = nat_lt c.changes most_changes && nat_le (c.bytes + written_by c.standing.geometry ch) (most_bytes c.standing.geometry)
+has_room c ch = room_for c (written_by c.standing.geometry ch)
 
 -- after a change that began at this tick
 abbrev pub with_change : ℕ → Change → Content → Content

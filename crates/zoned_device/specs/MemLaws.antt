@@ -1,9 +1,9 @@
 -- The laws of a device that keeps its moments in memory.
-use Rattle.std.specs.Prelude.{◌≡◌, ◌⊎◌, ℕ, ◌≤◌, ◌<◌, List, [], ◌∷◌, Option, None, Some, refl}
+use Rattle.std.specs.Prelude.{ℕ, ◌≤◌, List, [], ◌∷◌, Option, None, Some, refl}
 use Rattle.std.proofs.Common.{inl, inr}
 use Rattle.std.proofs.Math.Nat.{le_trans, lt_irrefl, lt_of_le_of_lt}
 use Rattle.zone_image.specs.Image.{Image, IsCrash}
-use Rattle.zone_image.specs.Infos.{infos_of, IsPossible, IsImage, IsValidImage}
+use Rattle.zone_image.specs.Infos.{infos_of, IsPossible, IsImage}
 use Rattle.zone_image.specs.Moments.{KeepsMoments}
 use Rattle.zoned_device.specs.Content.{Event, Content, LeftBy}
 use Rattle.zoned_device.specs.MemState.{MemState, standing_in, image_of, geometry_of, infos_in, tick_of, IsThere, IsNone, IsKnown, IsAbsent, LeftOf, since_of}

@@ -1,11 +1,11 @@
 -- The state of a device in memory, and what it tells.
-use Rattle.std.specs.Prelude.{◌⊎◌, ℕ, List, [], Bool, false, Option, None, Some, is_none, if◌then◌else◌}
+use Rattle.std.specs.Prelude.{◌≡◌, ◌&&◌, ◌⊎◌, ℕ, List, [], Bool, false, Option, None, Some, is_none, if◌then◌else◌}
 use Rattle.zone_image.specs.declared.Geometry.{Geometry}
 use Rattle.zone_image.specs.declared.ZoneInfo.{ZoneInfo}
 use Rattle.zone_image.specs.Image.{Image, IsCrash}
 use Rattle.zone_image.specs.Infos.{infos_of, IsValidImage}
 use Rattle.zoned_device.specs.CallState.{CallState, fault_of, begun, faulted}
-use Rattle.zoned_device.specs.Content.{Change, Content, LeftBy, AllBefore, content_after, calls_after, is_done, begun_with}
+use Rattle.zoned_device.specs.Content.{Content, LeftBy, AllBefore, room_for, begun_with}
 
 -- the image with its record, none until one is made, and the counts of the calls
 pub record MemState : Type 0 where
@@ -64,25 +64,18 @@ abbrev pub BeganBefore : ℕ → Option Content → Type 0
 BeganBefore now None = Unit {0}
 BeganBefore now (Some c) = AllBefore now c.events
 
-abbrev pub content_changed : CallState → Change → Option Content → Option Content
-content_changed s ch None = None
-content_changed s ch (Some c) = Some (content_after s ch c)
+abbrev pub room_in : Option Content → ℕ → Bool
+room_in None bytes = false
+room_in (Some c) bytes = room_for c bytes
 
-abbrev pub calls_changed : CallState → Change → Option Content → CallState
-calls_changed s ch None = s
-calls_changed s ch (Some c) = calls_after s ch c
+-- the next call passes: it isn't to fail, and for a changing call there is room to keep what it writes
+abbrev pub passes : MemState → Option ℕ → Bool
+passes s None = is_none (fault_of s.calls)
+passes s (Some bytes) = is_none (fault_of s.calls) && room_in s.content bytes
 
--- after a changing call
-abbrev pub changed : MemState → Change → MemState
-changed s ch = record { content = content_changed s.calls ch s.content; calls = calls_changed s.calls ch s.content }
-
-abbrev pub done_in : CallState → Change → Option Content → Bool
-done_in s ch None = false
-done_in s ch (Some c) = is_done s ch c
-
--- a changing call succeeds: it isn't to fail, and there is room to keep it
-abbrev pub succeeds : MemState → Change → Bool
-succeeds s ch = done_in s.calls ch s.content
+-- the next call fails
+abbrev pub Fails : MemState → Option ℕ → Type 0
+Fails s call = passes s call ≡ false
 
 -- after a call that changes no image
 abbrev pub called : MemState → MemState

@@ -1,6 +1,5 @@
 -- How the changes of an image are kept in memory.
-use Rattle.std.specs.Prelude.{◌≡◌, ℕ, ◌+◌, ◌*◌, ◌≤◌, List, [], ◌∷◌, ◌++◌, length, drop, All}
-use Rattle.zone_image.specs.declared.Geometry.{Geometry}
+use Rattle.std.specs.Prelude.{◌≡◌, ℕ, ◌+◌, ◌*◌, ◌≤◌, List, [], ◌∷◌, length, drop, All}
 use Rattle.zone_image.specs.Image.{Image}
 use Rattle.zone_image.specs.Changes.{chunks}
 use Rattle.zoned_device.specs.declared.step.Step.{Step}

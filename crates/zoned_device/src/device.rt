@@ -1,5 +1,5 @@
 // The device that every layer above writes to.
-ghost use Rattle.std.specs.Prelude.{◌≡◌, ◌⊎◌, ◌↔◌, ℕ, ◌+◌, ◌/◌, ◌%◌, ◌<◌, ◌≤◌, List, length, take, false, IsTrue, IfOk, OnOk, OnErr, IsErr, IsErrOf};
+ghost use Rattle.std.specs.Prelude.{Option, None, Some, ◌≡◌, ◌⊎◌, ◌↔◌, ℕ, ◌+◌, ◌/◌, ◌%◌, ◌<◌, ◌≤◌, List, length, take, false, IsTrue, IfOk, OnOk, OnErr, IsErr, IsErrOf};
 ghost use Rattle.zone_image.specs.declared.Geometry.{Geometry};
 ghost use Rattle.zone_image.specs.declared.ZoneInfo.{ZoneInfo};
 ghost use Rattle.zone_image.specs.Image.{Image, IsCrash, is_valid};
@@ -51,6 +51,13 @@ pub trait ZonedDevice: Drop {
     /// How often an append, finish, reset or sync failed.
     ghost failed_changes: { Self → ℕ };
 
+    /// The next call answers a fault only where this holds. It is told whether the call is to change the image, and
+    /// how many bytes it then writes. Most devices don't know beforehand.
+    ghost may_fail: { Self → Option ℕ → Type 0 } = { λ _ _. Unit {0} };
+
+    /// The next call answers a fault wherever this holds.
+    ghost must_fail: { Self → Option ℕ → Type 0 } = { λ _ _. ⊥ };
+
     /// Looks whether an image is there, and at its geometry, which is valid. `NotAnImage` comes exactly where the
     /// device tells that no image is there, unless the device fails or memory is wanting.
     fn probe(&mut self) -> Result<Geometry, ProbeError>
@@ -68,6 +75,8 @@ pub trait ZonedDevice: Drop {
 
         ensures ticks { tick self.new ≡ next_tick (tick self.old) }
         ensures cause { HasCause (faults self.old) (faults self.new) (IsErrOf result ProbeError.Failed) }
+        ensures may_fail { IsErrOf result ProbeError.Failed → may_fail self.old None }
+        ensures must_fail { must_fail self.old None → IsErrOf result ProbeError.Failed }
         ensures changes { failed_changes self.new ≡ failed_changes self.old };
 
     /// Makes a new image in place of what is there: all zones are empty, and nothing is pending. After `Failed` it
@@ -89,6 +98,8 @@ pub trait ZonedDevice: Drop {
 
         ensures ticks { tick self.new ≡ next_tick (tick self.old) }
         ensures cause { HasCause (faults self.old) (faults self.new) (IsErrOf result MakeError.Failed) }
+        ensures may_fail { IsErrOf result MakeError.Failed → may_fail self.old None }
+        ensures must_fail { must_fail self.old None → IsErrOf result MakeError.Failed }
         ensures changes { failed_changes self.new ≡ failed_changes self.old };
 
     /// The written number and the seal of a zone.
@@ -105,6 +116,8 @@ pub trait ZonedDevice: Drop {
 
         ensures ticks { tick self.new ≡ next_tick (tick self.old) }
         ensures cause { HasCause (faults self.old) (faults self.new) (IsErr result) }
+        ensures may_fail { IsErr result → may_fail self.old None }
+        ensures must_fail { must_fail self.old None → IsErr result }
         ensures changes { failed_changes self.new ≡ failed_changes self.old };
 
     /// Reads whole blocks of a zone, from this block on. After a fault the bytes of `out` are open.
@@ -125,6 +138,8 @@ pub trait ZonedDevice: Drop {
 
         ensures ticks { tick self.new ≡ next_tick (tick self.old) }
         ensures cause { HasCause (faults self.old) (faults self.new) (IsErr result) }
+        ensures may_fail { IsErr result → may_fail self.old None }
+        ensures must_fail { must_fail self.old None → IsErr result }
         ensures changes { failed_changes self.new ≡ failed_changes self.old };
 
     /// Writes whole blocks, at least one, at the end of an unsealed zone that has room for them, and answers the
@@ -159,6 +174,8 @@ pub trait ZonedDevice: Drop {
 
         ensures ticks { tick self.new ≡ next_tick (tick self.old) }
         ensures cause { HasCause (faults self.old) (faults self.new) (IsErr result) }
+        ensures may_fail { IsErr result → may_fail self.old (Some (length bytes.now)) }
+        ensures must_fail { must_fail self.old (Some (length bytes.now)) → IsErr result }
         ensures changes { Counts (failed_changes self.old) (failed_changes self.new) result };
 
     /// Seals a zone. A failed finish was done whole or not at all.
@@ -176,6 +193,8 @@ pub trait ZonedDevice: Drop {
 
         ensures ticks { tick self.new ≡ next_tick (tick self.old) }
         ensures cause { HasCause (faults self.old) (faults self.new) (IsErr result) }
+        ensures may_fail { IsErr result → may_fail self.old (Some 0) }
+        ensures must_fail { must_fail self.old (Some 0) → IsErr result }
         ensures changes { Counts (failed_changes self.old) (failed_changes self.new) result };
 
     /// Empties a zone. A failed reset was done whole or not at all.
@@ -193,6 +212,8 @@ pub trait ZonedDevice: Drop {
 
         ensures ticks { tick self.new ≡ next_tick (tick self.old) }
         ensures cause { HasCause (faults self.old) (faults self.new) (IsErr result) }
+        ensures may_fail { IsErr result → may_fail self.old (Some 0) }
+        ensures must_fail { must_fail self.old (Some 0) → IsErr result }
         ensures changes { Counts (failed_changes self.old) (failed_changes self.new) result };
 
     /// Makes all blocks durable. A failed sync leaves the image as it was.
@@ -208,6 +229,8 @@ pub trait ZonedDevice: Drop {
 
         ensures ticks { tick self.new ≡ next_tick (tick self.old) }
         ensures cause { HasCause (faults self.old) (faults self.new) (IsErr result) }
+        ensures may_fail { IsErr result → may_fail self.old (Some 0) }
+        ensures must_fail { must_fail self.old (Some 0) → IsErr result }
         ensures changes { Counts (failed_changes self.old) (failed_changes self.new) result };
 
     /// The tick: the number of calls so far, up to 2^64 - 2. A device that tells its moments fails every call from

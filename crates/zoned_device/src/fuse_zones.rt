@@ -41,7 +41,7 @@ impl FuseZones {
 }
 
 impl ZonedDevice for FuseZones {
-    ghost use Rattle.zoned_device.specs.MemState.{image_of, geometry_of, infos_in, tick_of, since_of, IsKnown, IsAbsent};
+    ghost use Rattle.zoned_device.specs.MemState.{image_of, geometry_of, infos_in, tick_of, since_of, IsKnown, IsAbsent, Fails};
     ghost use Rattle.zoned_device.specs.MemLaws.{mem_moments, mem_possible, mem_told, mem_there, mem_since_all};
 
     ghost known = { IsKnown };
@@ -67,6 +67,10 @@ impl ZonedDevice for FuseZones {
     ghost faults = { λ f. f.calls.faults };
 
     ghost failed_changes = { λ f. f.calls.failed_changes };
+
+    ghost may_fail = { Fails };
+
+    ghost must_fail = { Fails };
 
     fn probe(&mut self) -> Result<Geometry, ProbeError> {
         self.inner.probe()

@@ -35,10 +35,13 @@ impl Model for MemZones {
 }
 
 impl MemZones {
+    ghost use Rattle.zoned_device.specs.MemState.{IsKnown};
+
     /// A device on which all zones are empty.
     pub fn new(alloc: Global, geometry: Geometry, fails: Vec<Failing>) -> Result<Self, AllocError>
         requires { IsTrue (is_valid geometry) }
-        ensures { IfOk result (λ m. m ≡ record { content = Some (begun_with (blank geometry)); calls = no_calls fails.items }) }
+        ensures made { IfOk result (λ m. m ≡ record { content = Some (begun_with (blank geometry)); calls = no_calls fails.items }) }
+        ensures known { IfOk result IsKnown }
     {
         Ok(MemZones {
             alloc,
@@ -81,7 +84,8 @@ impl MemZones {
         requires full { length bytes.now / (geometry_of self.old).block ≡ (geometry_of self.old).capacity → IsTrue sealed }
         requires active { active_zones (infos_of (with_content (image_of self.old) zone (blocks_in (geometry_of self.old) bytes.now) kept sealed))
             ≤ (geometry_of self.old).active_limit }
-        ensures { self.new ≡ record self.old {
+        ensures known { IsKnown self.new }
+        ensures after { self.new ≡ record self.old {
           content = Some (begun_with (with_content (image_of self.old) zone (blocks_in (geometry_of self.old) bytes.now) kept sealed));
         } }
     {
@@ -94,7 +98,8 @@ impl MemZones {
     /// A device with the same image, or with none. Its record of moments begins with that image, no call of it is to
     /// fail, and its tick and its counts are 0.
     pub fn copy(&self) -> Result<Self, AllocError>
-        ensures { IfOk result (λ m. m ≡ record { content = copied self.now.content; calls = no_calls [] }) }
+        ensures copied { IfOk result (λ m. m ≡ record { content = copied self.now.content; calls = no_calls [] }) }
+        ensures known { IsKnown self.now → IfOk result IsKnown }
     {
         let record = match &self.record {
             Some(record) => Some(record.copy(self.alloc)?),
@@ -114,6 +119,7 @@ impl MemZones {
         requires numbers { length keep.now ≡ (geometry_of self).zones }
         ensures left { result ≡ record { content = Some (begun_with (crashed (image_of self) keep.now)); calls = no_calls [] } }
         ensures crash { IsCrash (image_of self) (image_of result) }
+        ensures known { IsKnown result }
     {
         let MemZones {
             alloc,
@@ -170,7 +176,7 @@ impl MemZones {
 }
 
 impl ZonedDevice for MemZones {
-    ghost use Rattle.zoned_device.specs.MemState.{image_of, geometry_of, infos_in, tick_of, since_of, IsKnown, IsAbsent};
+    ghost use Rattle.zoned_device.specs.MemState.{image_of, geometry_of, infos_in, tick_of, since_of, IsKnown, IsAbsent, Fails};
     ghost use Rattle.zoned_device.specs.MemLaws.{mem_moments, mem_possible, mem_told, mem_there, mem_since_all};
 
     ghost known = { IsKnown };
@@ -196,6 +202,10 @@ impl ZonedDevice for MemZones {
     ghost faults = { λ m. m.calls.faults };
 
     ghost failed_changes = { λ m. m.calls.failed_changes };
+
+    ghost may_fail = { Fails };
+
+    ghost must_fail = { Fails };
 
     fn probe(&mut self) -> Result<Geometry, ProbeError> {
         if self.begin().is_some() {

@@ -2,6 +2,7 @@
 ghost use Rattle.std.specs.Prelude.{◌≡◌, IsTrue, IfOk};
 ghost use Rattle.zone_image.specs.Image.{is_valid};
 ghost use Rattle.zone_image.specs.Changes.{blank};
+ghost use Rattle.zone_image.specs.Infos.{IsValidImage};
 
 use crate::counters::tick_after;
 use crate::memory::Memory;
@@ -36,7 +37,8 @@ impl SureZones {
     /// A device on which all zones are empty.
     pub fn new(alloc: Global, geometry: Geometry) -> Result<Self, AllocError>
         requires { IsTrue (is_valid geometry) }
-        ensures { IfOk result (λ d. d ≡ record { image = blank geometry; tick = 0 }) }
+        ensures made { IfOk result (λ d. d ≡ record { image = blank geometry; tick = 0 }) }
+        ensures known { IfOk result (λ d. IsValidImage d.image) }
     {
         Ok(SureZones {
             alloc,
@@ -73,6 +75,10 @@ impl ZonedDevice for SureZones {
     ghost faults = { λ _. 0 };
 
     ghost failed_changes = { λ _. 0 };
+
+    ghost may_fail = { λ _ _. ⊥ };
+
+    ghost must_fail = { λ _ _. ⊥ };
 
     fn probe(&mut self) -> Result<Geometry, ProbeError> {
         self.tick = tick_after(self.tick);

@@ -1,6 +1,6 @@
 //! Laws of replay: what a record makes of a table, and of the tree.
-ghost use Rattle.log_model.specs.ReplayLaws.{AddedRecordIsReplayed, SnapshotIsReplayed, ReplayMakesTable};
-ghost use Rattle.log_model.specs.TableLaws.{CreateIsReplayed, LinkIsReplayed, RenameIsReplayed, RenameOverIsReplayed, DeleteIsReplayed, GrowIsReplayed, ReplaceKeepsTree, RecordKeepsTable};
+ghost use Rattle.log_model.specs.ReplayLaws.{AddedRecordIsReplayed, SnapshotIsReplayed, ReplayMakesTable, ReplayedSizesAreRight};
+ghost use Rattle.log_model.specs.TableLaws.{CreateIsReplayed, LinkIsReplayed, RenameIsReplayed, RenameOverIsReplayed, DeleteIsReplayed, GrowIsReplayed, ReplaceKeepsTree, RecordKeepsTable, RecordKeepsSizes};
 
 /// The update of a new file, replayed, creates it in the tree.
 pub fn create_is_replayed()
@@ -55,4 +55,14 @@ pub fn record_keeps_table()
 /// A log that replays makes a table, whoever wrote it: ids rise, each file has a name, and no two files share one.
 pub fn replay_makes_table()
     ensures { ReplayMakesTable }
+{}
+
+/// A record keeps the stated sizes right.
+pub fn record_keeps_sizes()
+    ensures { RecordKeepsSizes }
+{}
+
+/// The sizes of a table that was replayed are right, whoever wrote the log.
+pub fn replayed_sizes_are_right()
+    ensures { ReplayedSizesAreRight }
 {}

@@ -1,11 +1,11 @@
-use Rattle.std.proofs.Common.{◌≡◌, ◌*◌, ◌%◌, List, length, take, arith, Option, Some, if◌then◌else◌, sym, ◌∙◌, ap, subst}
+use Rattle.std.proofs.Common.{◌≡◌, ◌*◌, take, if◌then◌else◌, sym, ◌∙◌, ap, subst}
 use Rattle.zone_image.specs.declared.Geometry.{Geometry}
 use Rattle.zone_image.specs.Image.{Image}
 use Rattle.zone_image.specs.Changes.{blocks_in}
 use Rattle.zone_image.specs.Infos.{IsValidImage}
 use Rattle.zone_image.proofs.BlockLaws.{blocks_in-take}
 use Rattle.zone_image.proofs.InfoLaws.{some_block}
-use Rattle.zoned_device.specs.Content.{Change, Append, has_room, with_change, part_of, with_part}
+use Rattle.zoned_device.specs.Content.{Append, has_room, with_change, part_of, with_part}
 use Rattle.zoned_device.proofs.Changes.{part_of-append}
 use Rattle.zoned_device.proofs.calls.append_part.Goals as goal
 

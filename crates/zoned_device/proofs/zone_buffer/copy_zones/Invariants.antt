@@ -1,4 +1,4 @@
-use Rattle.std.proofs.Common.{◌≡◌, ◌++◌, length, map, take, drop}
+use Rattle.std.proofs.Common.{◌≡◌, ◌++◌, map, take, drop}
 use Rattle.std.specs.List.{All}
 use Rattle.zoned_device.specs.Memory.{zone_in, IsBuffer}
 use Rattle.zoned_device.proofs.zone_buffer.copy_zones.Given as goal

@@ -1,4 +1,4 @@
-use Rattle.std.proofs.Common.{◌≡◌, length, map}
+use Rattle.std.proofs.Common.{◌≡◌, map}
 use Rattle.std.specs.List.{All}
 use Rattle.zoned_device.specs.Memory.{zone_in, IsBuffer}
 use Rattle.zoned_device.proofs.ZoneLists.{crash_first}

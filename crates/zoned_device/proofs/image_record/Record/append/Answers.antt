@@ -1,9 +1,9 @@
-use Rattle.std.proofs.Common.{◌≡◌, ◌+◌, ◌/◌, ◌%◌, ◌≤◌, ◌++◌, length, nat_lt, nat_le, ◌&&◌, sym, ◌∙◌, ap, subst, arith, rules, if◌then◌else◌}
+use Rattle.std.proofs.Common.{◌≡◌, ◌+◌, ◌/◌, ◌%◌, ◌++◌, length, nat_lt, nat_le, ◌&&◌, sym, ◌∙◌, ap, subst, arith, rules, if◌then◌else◌}
 use Rattle.zone_image.specs.declared.Geometry.{Geometry}
 use Rattle.zone_image.specs.Changes.{blocks_in}
 use Rattle.zoned_device.specs.declared.step.Step.{Step}
 use Rattle.zoned_device.specs.declared.step.Kind.TheVariants as kind
-use Rattle.zoned_device.specs.Content.{Content, Change, Append, has_room, with_change, most_changes, most_bytes}
+use Rattle.zoned_device.specs.Content.{Content, Append, with_change, most_changes, most_bytes}
 use Rattle.zoned_device.specs.Record.{content_in}
 use Rattle.zoned_device.proofs.Records.{content_after_step, record_after_step, room_for_step, appended_step, appended_within, written_bytes}
 use Rattle.zoned_device.proofs.image_record.Record.append.Goals as goal

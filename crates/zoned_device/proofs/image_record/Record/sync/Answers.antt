@@ -1,8 +1,8 @@
-use Rattle.std.proofs.Common.{◌≡◌, ◌+◌, ◌≤◌, [], length, sym, ◌∙◌, ap, subst, refl, arith, true}
+use Rattle.std.proofs.Common.{[], sym, ◌∙◌, ap, refl, arith}
 use Rattle.std.proofs.lemmas.List.{append-nil}
 use Rattle.zoned_device.specs.declared.step.Step.{Step}
 use Rattle.zoned_device.specs.declared.step.Kind.TheVariants as kind
-use Rattle.zoned_device.specs.Content.{Content, Sync, with_change}
+use Rattle.zoned_device.specs.Content.{Sync, with_change}
 use Rattle.zoned_device.specs.Record.{content_in}
 use Rattle.zoned_device.proofs.Records.{content_after_step, record_after_step, room_for_step}
 use Rattle.zoned_device.proofs.image_record.Record.sync.Goals as goal

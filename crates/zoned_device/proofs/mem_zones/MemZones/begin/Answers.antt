@@ -1,4 +1,4 @@
-use Rattle.std.proofs.Common.{◌≡◌, ◌∙◌, ap}
+use Rattle.std.proofs.Common.{◌∙◌, ap}
 use Rattle.zoned_device.specs.CallState.{CallState}
 use Rattle.zoned_device.proofs.DeviceCalls.{quiet_began, quiet_leaves}
 use Rattle.zoned_device.proofs.mem_zones.MemZones.begin.Goals as goal

@@ -1,8 +1,8 @@
 use Rattle.std.proofs.Common.{◌≡◌, Some, sym, ◌∙◌, ap, subst}
-use Rattle.zone_image.specs.Image.{Image, IsCrash}
+use Rattle.zone_image.specs.Image.{IsCrash}
 use Rattle.zone_image.specs.Changes.{crashed}
 use Rattle.zone_image.specs.Infos.{IsValidImage}
-use Rattle.zone_image.proofs.CrashLaws.{crashed_is_crash}
+use Rattle.zone_image.proofs.CrashLaws.{crashed_is_crash, valid_crash}
 use Rattle.zoned_device.specs.Content.{Content}
 use Rattle.zoned_device.specs.MemState.{MemState, image_of, IsKnown}
 use Rattle.zoned_device.proofs.mem_zones.MemZones.crash.Goals as goal
@@ -16,3 +16,10 @@ returns-clause-crash c =
     let left : c.crash.new.self.standing ≡ crashed (image_of c.args.self) keep =
     ap (λ (d : Content). d.standing) c.crash.ensures ∙ ap (λ (m : MemState). crashed (image_of m) keep) old in
     subst (IsCrash (image_of c.args.self)) (sym left) (crashed_is_crash (image_of c.args.self) keep valid)
+
+pub returns-clause-known : goal.returns-clause-known
+returns-clause-known c =
+    let old : ◌≡◌ {A = MemState} (record { content = Some c.in-Some.record; calls = c.self.inside.calls }) c.args.self =
+    sym (ap (λ o. record { content = o; calls = c.self.inside.calls }) c.in-Some.is) ∙ c.self.view_is in
+    let valid : IsValidImage (image_of c.args.self) = subst (λ (m : MemState). IsValidImage (image_of m)) old (subst IsKnown (sym old) c.requires.is_known) in
+    valid_crash (image_of c.args.self) c.crash.new.self.standing valid (returns-clause-crash c)

@@ -1,13 +1,15 @@
-use Rattle.std.proofs.Common.{◌≡◌, Some, List, sym, ◌∙◌, ap, subst, refl}
-use Rattle.std.specs.Prelude.{is_ok}
+use Rattle.std.proofs.Common.{◌≡◌, ◌%◌, length, Some, sym, ◌∙◌, ap, subst}
+use Rattle.std.specs.Prelude.{is_ok, is_none, ◌&&◌}
 use Rattle.zone_image.specs.Changes.{blocks_in}
 use Rattle.zone_image.specs.Infos.{infos_of, IsValidImage}
 use Rattle.zone_image.proofs.InfoLaws.{infos_written}
-use Rattle.zoned_device.specs.Content.{Content, Append, AllBefore, content_after, calls_after, is_done}
-use Rattle.zoned_device.specs.MemState.{MemState, image_of, IsKnown, BeganBefore}
+use Rattle.zoned_device.specs.Content.{Append, AllBefore, content_after, calls_after, is_done, room_for}
+use Rattle.zoned_device.specs.MemState.{MemState, image_of, IsKnown, BeganBefore, passes}
+use Rattle.zoned_device.specs.CallState.{fault_of}
 use Rattle.zoned_device.proofs.Changes.{CanAppend}
+use Rattle.zoned_device.proofs.Records.{written_bytes}
 use Rattle.zoned_device.proofs.DeviceAppends.{can_append, append_shows, passed_same, passed_part}
-use Rattle.zoned_device.proofs.DeviceCalls.{on_ok, on_err, call_valid, call_began, call_leaves, call_done, call_stands, call_since}
+use Rattle.zoned_device.proofs.DeviceCalls.{on_ok, on_err, fails_where, call_valid, call_began, call_leaves, call_done, call_stands, call_since}
 use Rattle.zoned_device.proofs.mem_zones.MemZonesZonedDevice.append.Goals as goal
 
 -- the device has the content that the call is made with
@@ -55,3 +57,16 @@ returns-clause-passed c = λ k j told le crash.
     call_since c.args.self.now c.in-Some.record c.self.inside.calls (Append c.args.zone (blocks_in (image_of c.args.self.now).geometry c.args.bytes.now)) (old_is c) c.requires.is_known (can c) (began_is c) c.append.ensures.within c.append.new.record c.append.new.calls (content_is c) (counts_is c) j
     (λ same. passed_same (image_of c.args.self.now) c.append.new.record.standing c.args.zone (blocks_in (image_of c.args.self.now).geometry c.args.bytes.now) (can c) (image_is c) k j le same crash)
     (λ d part stands. passed_part (image_of c.args.self.now) c.append.new.record.standing c.args.zone (blocks_in (image_of c.args.self.now).geometry c.args.bytes.now) (can c) (image_is c) k j le d part stands crash)
+
+-- it passes where it isn't to fail and there is room for its bytes
+passes_is : (c : goal.After-append) → passes c.args.self.now (Some (length c.args.bytes.now)) ≡ is_done c.self.inside.calls (Append c.args.zone (blocks_in c.in-Some.record.standing.geometry c.args.bytes.now)) c.in-Some.record
+passes_is c =
+    let whole = subst (λ (m : MemState). length c.args.bytes.now % (image_of m).geometry.block ≡ 0) (sym (old_is c)) c.requires.whole in
+    sym (ap (λ m. passes m (Some (length c.args.bytes.now))) (old_is c))
+    ∙ ap (λ n. is_none (fault_of c.self.inside.calls) && room_for c.in-Some.record n) (written_bytes c.in-Some.record.standing.geometry c.args.zone c.args.bytes.now whole)
+
+pub returns-clause-may_fail : goal.returns-clause-may_fail
+returns-clause-may_fail c = (fails_where c.append.result _ _ (passes_is c) c.append.ensures.answer).0
+
+pub returns-clause-must_fail : goal.returns-clause-must_fail
+returns-clause-must_fail c = (fails_where c.append.result _ _ (passes_is c) c.append.ensures.answer).1

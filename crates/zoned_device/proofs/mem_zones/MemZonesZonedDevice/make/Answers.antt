@@ -1,4 +1,4 @@
-use Rattle.std.proofs.Common.{◌≡◌, ◌∙◌, ap}
+use Rattle.std.proofs.Common.{◌∙◌, ap}
 use Rattle.zone_image.specs.Infos.{infos_of}
 use Rattle.zone_image.proofs.InfoLaws.{infos-blank}
 use Rattle.zoned_device.specs.Content.{Content}

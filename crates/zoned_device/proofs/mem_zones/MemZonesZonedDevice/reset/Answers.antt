@@ -1,7 +1,7 @@
-use Rattle.std.proofs.Common.{◌≡◌, Some, List, sym, ◌∙◌, ap, subst, refl}
+use Rattle.std.proofs.Common.{◌≡◌, Some, sym, ◌∙◌, ap, subst}
 use Rattle.zone_image.specs.Infos.{infos_of}
 use Rattle.zone_image.proofs.InfoLaws.{infos-emptied}
-use Rattle.zoned_device.specs.Content.{Content, Reset, AllBefore}
+use Rattle.zoned_device.specs.Content.{Reset, AllBefore}
 use Rattle.zoned_device.specs.MemState.{MemState, image_of, BeganBefore}
 use Rattle.zoned_device.proofs.DeviceCalls.{on_ok, on_err, call_valid, call_began, call_leaves, call_done, call_stands, reset_shows}
 use Rattle.zoned_device.proofs.mem_zones.MemZonesZonedDevice.reset.Goals as goal

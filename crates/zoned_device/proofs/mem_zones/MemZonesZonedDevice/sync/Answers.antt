@@ -1,7 +1,5 @@
-use Rattle.std.proofs.Common.{◌≡◌, Some, List, sym, ◌∙◌, ap, subst, refl}
-use Rattle.zone_image.specs.Infos.{infos_of}
-use Rattle.zone_image.proofs.InfoLaws.{infos-synced}
-use Rattle.zoned_device.specs.Content.{Content, Sync, AllBefore}
+use Rattle.std.proofs.Common.{◌≡◌, Some, sym, ◌∙◌, ap, subst}
+use Rattle.zoned_device.specs.Content.{Sync, AllBefore}
 use Rattle.zoned_device.specs.MemState.{MemState, image_of, BeganBefore}
 use Rattle.zoned_device.proofs.DeviceCalls.{call_valid, call_began, call_leaves, call_stands, sync_infos}
 use Rattle.zoned_device.proofs.mem_zones.MemZonesZonedDevice.sync.Goals as goal

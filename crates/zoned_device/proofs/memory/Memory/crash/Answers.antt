@@ -1,9 +1,8 @@
 use Rattle.std.proofs.Common.{◌≡◌, List, length, map, sym, ◌∙◌, ap, subst}
-use Rattle.std.specs.List.{All}
 use Rattle.std.proofs.lemmas.List.{with_items_is}
 use Rattle.zone_image.specs.Changes.{zones_crashed}
 use Rattle.zoned_device.specs.declared.zone_buffer.ZoneBuffer.{ZoneBuffer}
-use Rattle.zoned_device.specs.Memory.{zone_in, IsBuffer, IsMemory}
+use Rattle.zoned_device.specs.Memory.{zone_in, IsMemory}
 use Rattle.zoned_device.proofs.Memories.{memory_crashed}
 use Rattle.zoned_device.proofs.memory.Memory.crash.Goals as goal
 

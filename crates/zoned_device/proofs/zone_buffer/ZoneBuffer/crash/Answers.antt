@@ -1,4 +1,4 @@
-use Rattle.std.proofs.Common.{◌≡◌, ◌∙◌, ap, min}
+use Rattle.std.proofs.Common.{◌∙◌, ap, min}
 use Rattle.zoned_device.proofs.ZoneLists.{cut_zone}
 use Rattle.zoned_device.proofs.zone_buffer.ZoneBuffer.crash.Goals as goal
 
