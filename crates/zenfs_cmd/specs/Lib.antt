@@ -3,3 +3,4 @@ pub mod Repeats
 pub mod SmallImage
 pub mod Refusals
 pub mod SmallLogs
+pub mod Listing

@@ -2,11 +2,14 @@
 #![tactic(auto)]
 
 mod bare;
+mod command;
+mod list;
 mod refusal;
 mod repeats;
 mod small_image;
 mod small_log;
 mod words;
 
+pub use command::run;
 pub use fs_report::{MemSink, OutSink, Sink, SinkFault, Status};
 pub use words::image_path;

@@ -1,8 +1,8 @@
 // The files of an image whose only log is a superblock and a snapshot.
-ghost use Rattle.std.specs.Prelude.{◌≡◌, ◌^◌, ◌<◌, length, IfOk, IsErrOf, Some, None};
+ghost use Rattle.std.specs.Prelude.{◌≡◌, ◌^◌, ◌<◌, length, IfOk, IsErr, IsErrOf, Some, None};
 ghost use Rattle.zone_image.specs.Counts.{HasCause};
 ghost use Rattle.zone_image.specs.Reads.{OnlyReads};
-ghost use Rattle.zenfs_cmd.specs.SmallImage.{is_superblock, other_zones_empty, small_files};
+ghost use Rattle.zenfs_cmd.specs.SmallImage.{is_empty_zone, is_superblock, other_zones_empty, small_files};
 ghost use Rattle.zenfs_cmd.specs.SmallLogs.{files_of_log};
 
 use crate::bare::{are_apart, are_bare};
@@ -58,11 +58,23 @@ fn others_empty<D: ZonedDevice>(dev: &mut D) -> Result<bool, DevFault>
     requires { D.known dev.old }
     ensures empty { IfOk result (λ empty. D.tells → empty ≡ other_zones_empty (D.image dev.old)) }
     ensures device { OnlyReads D.known D.geometry D.infos D.tells D.image D.tick D.since D.failed_changes dev.old dev.new }
-    ensures cause { HasCause (D.faults dev.old) (D.faults dev.new) (IsErrOf result (record {})) }
+    ensures cause { HasCause (D.faults dev.old) (D.faults dev.new) (IsErr result) }
 {
-    let first = dev.report(1)?;
-    let second = dev.report(2)?;
-    Ok(first.written == 0 && second.written == 0)
+    let first = is_empty_zone(dev, 1)?;
+    let second = is_empty_zone(dev, 2)?;
+    Ok(first && second)
+}
+
+// Whether a metadata zone has no block.
+fn is_empty_zone<D: ZonedDevice>(dev: &mut D, zone: u32) -> Result<bool, DevFault>
+    requires is_known { D.known dev.old }
+    requires is_metadata { zone < 3 }
+    ensures empty { IfOk result (λ empty. D.tells → empty ≡ is_empty_zone (D.image dev.old) zone) }
+    ensures device { OnlyReads D.known D.geometry D.infos D.tells D.image D.tick D.since D.failed_changes dev.old dev.new }
+    ensures cause { HasCause (D.faults dev.old) (D.faults dev.new) (IsErr result) }
+{
+    let info = dev.report(zone)?;
+    Ok(info.written == 0)
 }
 
 // The files of a log, where its records are a superblock and a snapshot of this form.

@@ -8,4 +8,9 @@ use Rattle.zenfs_cmd.proofs.small_log.small_log.Goals as goal
 
 pub returns-clause-log : goal.returns-clause-log
 unfolding scan
-returns-clause-log g c = IfOk-weaker c.two_records.result _ _ (λ log is told shape. ?) c.two_records.ensures.log
+returns-clause-log g c = IfOk-weaker c.two_records.result _ _ (λ log is told shape.
+    let D = g.D.ZonedDevice in
+    let block = c.args.geometry.now.block in
+    ap (λ i. files_of_scan shape (scan block (zone_at i 0).blocks)) (sym (c.report.ensures.same_image told))
+    ∙ ap (λ r. files_of_scan shape (scan_left r (zone_at (D.image c.report.new.self) r.zone).blocks)) (sym c.new-reader.ensures)
+    ∙ is told shape) c.two_records.ensures.log
