@@ -1,11 +1,10 @@
 -- What a reader of a small image learns, step by step.
-use Rattle.std.proofs.Common.{◌≡◌, ℕ, ◌<◌, Bool, true, false, List, length, refl, ap, sym, ◌∙◌, arith}
-use Rattle.std.specs.Prelude.{◌&&◌, ◌==◌, IsTrue, cond, nat_eq, Option, Some, None}
+use Rattle.std.proofs.Common.{◌≡◌, ℕ, ◌<◌, true, false, List, ap, ◌∙◌, arith}
+use Rattle.std.specs.Prelude.{IsTrue, cond, nat_eq, Option, None}
 use Rattle.zone_image.specs.declared.Geometry.{Geometry}
 use Rattle.zone_image.specs.declared.ZoneInfo.{ZoneInfo}
 use Rattle.zone_image.specs.Image.{Image, is_valid, zone_at}
 use Rattle.zone_image.specs.Infos.{info_at, IsPossible, IsImage}
-use Rattle.record_model.specs.declared.types.FileEntry.{FileEntry}
 use Rattle.log_model.specs.LogScan.{scan}
 use Rattle.std.proofs.lemmas.Grind.{common_steps}
 use Rattle.meta_log.proofs.Reading.{written_is}

@@ -1,9 +1,7 @@
 -- What `list` prints, and why it may not.
-use Rattle.std.specs.Prelude.{◌≡◌, ◌≢◌, ⊤, ℕ, List, ◌++◌, Option, Some, None, IsSome, IfSome, option_map}
+use Rattle.std.specs.Prelude.{◌≡◌, ⊤, ℕ, List, ◌++◌, Option, None, IsSome, IfSome, option_map}
 use Rattle.zone_image.specs.Image.{Image}
 use Rattle.command_model.specs.ReportTexts.{list_text}
-use Rattle.fs_report.specs.declared.status.Status.{Status}
-use Rattle.fs_report.specs.declared.status.Status.TheVariants as status
 use Rattle.zenfs_cmd.specs.declared.refusal.Refusal.{Refusal}
 use Rattle.zenfs_cmd.specs.declared.refusal.Refusal.TheVariants.{Words, DeviceFault, OutputFault, NoMemory, NotAnImage, OtherImage}
 use Rattle.fs_report.specs.Written.{AddsFront}

@@ -1,5 +1,5 @@
 -- The words that are a command.
-use Rattle.std.specs.Prelude.{ℕ, List, [], ◌∷◌, drop, codes, nat_eq, Option, Some, None, if◌then◌else◌}
+use Rattle.std.specs.Prelude.{List, [], ◌∷◌, drop, codes, nat_eq, Option, None, if◌then◌else◌}
 use Rattle.std.specs.List.{starts_with}
 use Rattle.std.specs.Str.{bytes_eq}
 use Rattle.command_model.specs.Options.{Word, some_value}

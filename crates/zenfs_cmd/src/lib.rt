@@ -8,6 +8,8 @@ mod refusal;
 mod repeats;
 mod small_image;
 mod small_log;
+#[cfg(test)]
+mod tests;
 mod words;
 
 pub use command::run;

@@ -1,4 +1,4 @@
-use Rattle.std.proofs.Common.{ap, arith, ◌∙◌}
+use Rattle.std.proofs.Common.{ap, ◌∙◌}
 use Rattle.std.specs.Prelude.{nat_eq}
 use Rattle.zenfs_cmd.proofs.SmallImageLaws.{zone_is_empty, zone_there}
 use Rattle.zenfs_cmd.proofs.small_image.is_empty_zone.Goals as goal

@@ -1,7 +1,7 @@
-use Rattle.std.proofs.Common.{◌≡◌, ap, sym, ◌∙◌}
+use Rattle.std.proofs.Common.{ap, sym, ◌∙◌}
 use Rattle.std.proofs.lemmas.Result.{IfOk-weaker}
 use Rattle.zone_image.specs.Image.{zone_at}
-use Rattle.log_model.specs.LogScan.{scan, scan_from}
+use Rattle.log_model.specs.LogScan.{scan}
 use Rattle.meta_log.specs.Reader.{scan_left}
 use Rattle.zenfs_cmd.specs.SmallImage.{files_of_scan}
 use Rattle.zenfs_cmd.proofs.small_log.small_log.Goals as goal
