@@ -46,6 +46,7 @@ pub trait ByteFile: Drop {
     /// Opens the file. It answers false exactly where no file is there.
     fn open(&mut self) -> Result<bool, FileFault>
         ensures found { IfOk result (λ there. IsTrue there → is_open self.new) }
+        ensures stays { IfOk result (λ there. is_open self.old → IsTrue there) }
         ensures missing { IfOk result (λ there. there ≡ false → is_absent self.new) }
         ensures exact { IfOk result (λ there. tells → (there ≡ false) ↔ is_absent self.old) }
         ensures same { SameFile is_open is_sized size tells contents self.old self.new }
