@@ -84,8 +84,8 @@ fn obey<D: ZonedDevice, O: Sink>(
     list_files(alloc, dev, out)
 }
 
-// Says a refusal, and tells how the program ends.
-fn refuse<E: Sink>(err: &mut E, refusal: Refusal) -> Status
+/// Says a refusal, of which a fault changes nothing, and tells how the program ends.
+pub fn refuse<E: Sink>(err: &mut E, refusal: Refusal) -> Status
     ensures status { result ≡ refusal_status refusal }
     ensures said { (Rose (E.faults err.old) (E.faults err.new) → ⊥) → E.tells → E.written err.new ≡ E.written err.old ++ refusal_text refusal }
 {

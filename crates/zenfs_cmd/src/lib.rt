@@ -12,6 +12,7 @@ mod small_log;
 mod tests;
 mod words;
 
-pub use command::run;
+pub use command::{refuse, run};
 pub use fs_report::{MemSink, OutSink, Sink, SinkFault, Status};
+pub use refusal::Refusal;
 pub use words::image_path;

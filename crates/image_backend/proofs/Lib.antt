@@ -1,0 +1,3 @@
+mod Descriptors
+mod Places
+mod Tables

@@ -1,0 +1,19 @@
+use Rattle.std.proofs.Common.{refl}
+use Rattle.zone_image.specs.Infos.{infos_emptied}
+use Rattle.image_backend.specs.Table.{no_slot, with_slot, table_infos}
+use Rattle.image_backend.proofs.Tables.{infos_with_none, table_with_none, either_held, infos_done}
+use Rattle.image_backend.proofs.changes.reset.Goals as goal
+
+pub returns-clause-still_known : goal.returns-clause-still_known
+returns-clause-still_known g c =
+    let t = c.args.table.now in
+    let zone = c.args.zone in
+    either_held g.F.ByteFile.is_open g.F.ByteFile.is_sized g.F.ByteFile.size c.put_slot.result t (with_slot t zone no_slot) c.put_slot.new.table c.put_slot.new.file
+    c.put_slot.ensures.done c.put_slot.ensures.not_done refl c.requires.known.table (table_with_none t zone c.requires.known.table c.requires.is_zone) c.put_slot.ensures.holds
+
+pub returns-clause-new_infos : goal.returns-clause-new_infos
+returns-clause-new_infos g c =
+    let t = c.args.table.now in
+    let zone = c.args.zone in
+    infos_done g.F.ByteFile.is_open g.F.ByteFile.is_sized g.F.ByteFile.size c.put_slot.result t (with_slot t zone no_slot) c.put_slot.new.table (infos_emptied (table_infos t) zone)
+    c.put_slot.ensures.done (infos_with_none t zone c.requires.known.table c.requires.is_zone)

@@ -1,0 +1,6 @@
+pub mod Contents
+pub mod MemFileState
+pub mod DiskFileState
+pub mod Format
+pub mod Table
+pub mod ImageState

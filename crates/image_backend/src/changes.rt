@@ -1,0 +1,146 @@
+// The changes of an image in a file: each writes to the file, and then the table takes over what was written.
+ghost use Rattle.std.specs.Prelude.{◌≡◌, ◌+◌, ◌*◌, ◌/◌, ◌%◌, ◌<◌, ◌≤◌, true, false, length, IfOk, OnOk, OnErr, IsErr, IsTrue};
+ghost use Rattle.zone_image.specs.Image.{is_valid};
+ghost use Rattle.zone_image.specs.Infos.{info_at, active_zones, infos_appended, infos_finished, infos_emptied};
+ghost use Rattle.zone_image.specs.Counts.{HasCause, Counts as Counted};
+ghost use Rattle.image_backend.specs.Table.{table_infos, slot_at, slot_appended, slot_finished, no_slot, with_slot, table_synced};
+ghost use Rattle.image_backend.specs.ImageState.{change_counted, HoldsTable, HoldsZones};
+
+use crate::byte_file::ByteFile;
+use crate::counts::Counts;
+use crate::format::{self, block_at, descriptor_at};
+use crate::table::{NO_SLOT, Slot, Table};
+use zoned_device::DevFault;
+
+/// Writes whole blocks at the end of a zone, and answers the first block's number.
+pub(crate) fn append<F: ByteFile>(
+    file: &mut F,
+    table: &mut Table,
+    counts: &mut Counts,
+    zone: u32,
+    bytes: &[u8],
+) -> Result<u32, DevFault>
+    requires known { HoldsTable F.is_open F.is_sized F.size table.old file.old }
+    requires is_zone { zone < table.old.geometry.zones }
+    requires whole { length bytes.now % table.old.geometry.block ≡ 0 }
+    requires unsealed { (info_at (table_infos table.old) zone).sealed ≡ false }
+    requires room { (info_at (table_infos table.old) zone).written + length bytes.now / table.old.geometry.block
+        ≤ table.old.geometry.capacity }
+    requires active { (info_at (table_infos table.old) zone).written ≡ 0
+        → active_zones (table_infos table.old) < table.old.geometry.active_limit }
+    ensures first { IfOk result (λ first. first ≡ (info_at (table_infos table.old) zone).written) }
+    ensures done { OnOk result (table.new ≡ with_slot table.old zone
+        (slot_appended table.old.geometry.capacity (length bytes.now / table.old.geometry.block) (slot_at table.old zone))) }
+    ensures new_infos { OnOk result (table_infos table.new ≡ infos_appended table.old.geometry (table_infos table.old) zone
+        (length bytes.now / table.old.geometry.block)) }
+    ensures not_done { OnErr result (table.new ≡ table.old) }
+    ensures still_known { HoldsTable F.is_open F.is_sized F.size table.new file.new }
+    ensures refused { IsTrue counts.old.broken → IsErr result }
+    ensures cause { HasCause counts.old.faults counts.new.faults (IsErr result) }
+    ensures changes { Counted counts.old.failed_changes counts.new.failed_changes result }
+{
+    counts.begin_change()?;
+    let geometry = table.geometry();
+    let slot = table.slot(zone);
+    let at = block_at(&geometry, zone, slot.written);
+    if file.write_at(at, bytes).is_err() {
+        return Err(counts.failed_change());
+    }
+    let count = bytes.len() / geometry.block as usize;
+    let after = slot.appended(geometry.capacity, count as u32);
+    put_slot(file, table, counts, zone, after)?;
+    Ok(slot.written)
+}
+
+/// Seals a zone.
+pub(crate) fn finish<F: ByteFile>(
+    file: &mut F,
+    table: &mut Table,
+    counts: &mut Counts,
+    zone: u32,
+) -> Result<(), DevFault>
+    requires known { HoldsTable F.is_open F.is_sized F.size table.old file.old }
+    requires is_zone { zone < table.old.geometry.zones }
+    ensures done { OnOk result (table.new ≡ with_slot table.old zone (slot_finished (slot_at table.old zone))) }
+    ensures new_infos { OnOk result (table_infos table.new ≡ infos_finished (table_infos table.old) zone) }
+    ensures not_done { OnErr result (table.new ≡ table.old) }
+    ensures still_known { HoldsTable F.is_open F.is_sized F.size table.new file.new }
+    ensures refused { IsTrue counts.old.broken → IsErr result }
+    ensures cause { HasCause counts.old.faults counts.new.faults (IsErr result) }
+    ensures changes { Counted counts.old.failed_changes counts.new.failed_changes result }
+{
+    counts.begin_change()?;
+    let slot = table.slot(zone);
+    put_slot(file, table, counts, zone, slot.finished())
+}
+
+/// Empties a zone.
+pub(crate) fn reset<F: ByteFile>(
+    file: &mut F,
+    table: &mut Table,
+    counts: &mut Counts,
+    zone: u32,
+) -> Result<(), DevFault>
+    requires known { HoldsTable F.is_open F.is_sized F.size table.old file.old }
+    requires is_zone { zone < table.old.geometry.zones }
+    ensures done { OnOk result (table.new ≡ with_slot table.old zone no_slot) }
+    ensures new_infos { OnOk result (table_infos table.new ≡ infos_emptied (table_infos table.old) zone) }
+    ensures not_done { OnErr result (table.new ≡ table.old) }
+    ensures still_known { HoldsTable F.is_open F.is_sized F.size table.new file.new }
+    ensures refused { IsTrue counts.old.broken → IsErr result }
+    ensures cause { HasCause counts.old.faults counts.new.faults (IsErr result) }
+    ensures changes { Counted counts.old.failed_changes counts.new.failed_changes result }
+{
+    counts.begin_change()?;
+    put_slot(file, table, counts, zone, NO_SLOT)
+}
+
+/// Makes all blocks durable.
+pub(crate) fn sync<F: ByteFile>(
+    file: &mut F,
+    table: &mut Table,
+    counts: &mut Counts,
+) -> Result<(), DevFault>
+    requires known { HoldsTable F.is_open F.is_sized F.size table.old file.old }
+    ensures done { OnOk result (table.new ≡ table_synced table.old) }
+    ensures same_infos { table_infos table.new ≡ table_infos table.old }
+    ensures not_done { OnErr result (table.new ≡ table.old) }
+    ensures still_known { HoldsTable F.is_open F.is_sized F.size table.new file.new }
+    ensures refused { IsTrue counts.old.broken → IsErr result }
+    ensures cause { HasCause counts.old.faults counts.new.faults (IsErr result) }
+    ensures changes { Counted counts.old.failed_changes counts.new.failed_changes result }
+{
+    counts.begin_change()?;
+    if file.sync().is_err() {
+        return Err(counts.failed_change());
+    }
+    table.sync();
+    Ok(())
+}
+
+// Writes a zone's descriptor. After a failed write no further change is taken.
+fn put_slot<F: ByteFile>(
+    file: &mut F,
+    table: &mut Table,
+    counts: &mut Counts,
+    zone: u32,
+    slot: Slot,
+) -> Result<(), DevFault>
+    requires valid { IsTrue (is_valid table.old.geometry) }
+    requires count { length table.old.slots ≡ table.old.geometry.zones }
+    requires holds { HoldsZones F.is_open F.is_sized F.size table.old.geometry file.old }
+    requires is_zone { zone < table.old.geometry.zones }
+    ensures done { OnOk result (table.new ≡ with_slot table.old zone slot) }
+    ensures not_done { OnErr result (table.new ≡ table.old) }
+    ensures holds { HoldsZones F.is_open F.is_sized F.size table.old.geometry file.new }
+    ensures same_counts { OnOk result (counts.new ≡ counts.old) }
+    ensures broken { OnErr result (counts.new ≡ record (change_counted counts.old) { broken = true }) }
+    ensures cause { HasCause counts.old.faults counts.new.faults (IsErr result) }
+{
+    let bytes = format::descriptor(slot.info());
+    if file.write_at(descriptor_at(zone), &bytes).is_err() {
+        return Err(counts.break_off());
+    }
+    table.set(zone, slot);
+    Ok(())
+}

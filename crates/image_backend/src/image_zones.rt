@@ -1,0 +1,193 @@
+// A zoned device kept in an image file.
+ghost use Rattle.std.specs.Prelude.{◌≡◌, None, false};
+
+use crate::byte_file::ByteFile;
+use crate::counts::Counts;
+use crate::table::Table;
+use crate::{changes, making, reads, scanning};
+use std::alloc::Global;
+use std::marker::Model;
+use zone_image::{Geometry, ZoneInfo};
+use zoned_device::{DevFault, MakeError, ProbeError, ZonedDevice};
+
+/// A device over a file that holds an image. After a failed write of a descriptor each later append, finish, reset
+/// and sync fails. Apart from these, it fails only where its file does.
+#[derive(Drop)]
+pub struct ImageZones<F: ByteFile> {
+    alloc: Global,
+    file: F,
+    table: Option<Table>,
+    counts: Counts,
+}
+
+impl<F: ByteFile> Model for ImageZones<F> {
+    ghost use Rattle.image_backend.specs.ImageState.{ImageState};
+
+    ghost Value = { ImageState F };
+
+    ghost view = { λ d. record { file = d.file; table = d.table; counts = d.counts } };
+
+    ghost use Rattle.image_backend.specs.ImageState.{IsHeld};
+
+    ghost invariant = { λ d. IsHeld F.is_open F.is_sized F.size d.table d.file };
+}
+
+impl<F: ByteFile> ImageZones<F> {
+    ghost use Rattle.image_backend.specs.ImageState.{no_counts};
+
+    /// A device over this file, which isn't looked at yet.
+    pub fn new(alloc: Global, file: F) -> ImageZones<F>
+        ensures { result ≡ record { file = file; table = None; counts = no_counts } }
+    {
+        ImageZones {
+            alloc,
+            file,
+            table: None,
+            counts: Counts {
+                broken: false,
+                faults: 0,
+                failed_changes: 0,
+            },
+        }
+    }
+
+    /// The file.
+    pub fn into_file(self) -> F
+        ensures { result ≡ self.file }
+    {
+        self.file
+    }
+}
+
+impl<F: ByteFile> ZonedDevice for ImageZones<F> {
+    ghost use Rattle.zone_image.specs.Counts.{last_tick};
+    ghost use Rattle.image_backend.specs.ImageState.{IsKnown, geometry_in, infos_in, no_image, known_possible};
+
+    ghost known = { λ d. IsKnown F.is_open F.is_sized F.size d.table d.file };
+
+    ghost geometry = { λ d. geometry_in d.table };
+
+    ghost infos = { λ d. infos_in d.table };
+
+    ghost tells = { ⊥ };
+
+    ghost absent = { λ _. ⊥ };
+
+    ghost image = { λ _. no_image };
+
+    ghost tells_now = { ⊥ };
+
+    ghost tells_moments = { ⊥ };
+
+    ghost since = { λ _ _ _. ⊥ };
+
+    ghost tick = { λ _. last_tick };
+
+    ghost faults = { λ d. d.counts.faults };
+
+    ghost failed_changes = { λ d. d.counts.failed_changes };
+
+    fn probe(&mut self) -> Result<Geometry, ProbeError> {
+        if let Some(table) = &self.table {
+            return Ok(table.geometry());
+        }
+        match scanning::scan(self.alloc, &mut self.file) {
+            Ok(table) => {
+                let geometry = table.geometry();
+                self.table = Some(table);
+                Ok(geometry)
+            }
+            Err(ProbeError::Failed) => {
+                self.counts.fault();
+                Err(ProbeError::Failed)
+            }
+            Err(error) => Err(error),
+        }
+    }
+
+    fn make(&mut self, shape: &Geometry) -> Result<(), MakeError> {
+        let table = Table::blank(self.alloc, shape)?;
+        match making::write_image(self.alloc, &mut self.file, shape) {
+            Ok(()) => {
+                self.table = Some(table);
+                self.counts.broken = false;
+                Ok(())
+            }
+            Err(MakeError::Failed) => {
+                self.table = None;
+                self.counts.fault();
+                Err(MakeError::Failed)
+            }
+            Err(MakeError::NoMemory) => Err(MakeError::NoMemory),
+        }
+    }
+
+    fn report(&mut self, zone: u32) -> Result<ZoneInfo, DevFault> {
+        match &self.table {
+            Some(table) => Ok(table.slot(zone).info()),
+            None => unreachable!(),
+        }
+    }
+
+    fn read(&mut self, zone: u32, block: u32, out: &mut [u8]) -> Result<(), DevFault> {
+        let answer = match &self.table {
+            Some(table) => reads::read(&mut self.file, table, zone, block, out),
+            None => unreachable!(),
+        };
+        match answer {
+            Ok(()) => Ok(()),
+            Err(_) => Err(self.counts.fault()),
+        }
+    }
+
+    fn append(&mut self, zone: u32, bytes: &[u8]) -> Result<u32, DevFault> {
+        match &mut self.table {
+            Some(table) => { changes::append(&mut self.file, table, &mut self.counts, zone, bytes) }
+            None => unreachable!(),
+        }
+    }
+
+    fn finish(&mut self, zone: u32) -> Result<(), DevFault> {
+        match &mut self.table {
+            Some(table) => changes::finish(&mut self.file, table, &mut self.counts, zone),
+            None => unreachable!(),
+        }
+    }
+
+    fn reset(&mut self, zone: u32) -> Result<(), DevFault> {
+        match &mut self.table {
+            Some(table) => changes::reset(&mut self.file, table, &mut self.counts, zone),
+            None => unreachable!(),
+        }
+    }
+
+    fn sync(&mut self) -> Result<(), DevFault> {
+        match &mut self.table {
+            Some(table) => changes::sync(&mut self.file, table, &mut self.counts),
+            None => unreachable!(),
+        }
+    }
+
+    // The tick of a device that tells no moments stays at its end.
+    fn tick(&self) -> u64 {
+        u64::MAX - 1
+    }
+
+    fn faults(&self) -> u64 {
+        self.counts.faults
+    }
+
+    fn failed_changes(&self) -> u64 {
+        self.counts.failed_changes
+    }
+
+    ghost possible = { λ d known. known_possible F.is_open F.is_sized F.size d.table d.file known };
+
+    ghost told = { λ _ untold _. absurd untold };
+
+    ghost there = { λ _ untold _ _. absurd untold };
+
+    ghost moments = { record { earlier = λ _ _ _ _ _ none. absurd none; since_now = λ _ _ none. absurd none; since_told = λ _ _ _ none. absurd none } };
+
+    ghost since_all = { λ _ _ untold _ _. absurd untold };
+}

@@ -1,0 +1,30 @@
+// Reads of the zones in a file.
+ghost use Rattle.std.specs.Prelude.{◌≡◌, ◌+◌, ◌/◌, ◌%◌, ◌<◌, ◌≤◌, length, IsErr};
+ghost use Rattle.zone_image.specs.Counts.{HasCause};
+ghost use Rattle.zone_image.specs.Infos.{info_at};
+ghost use Rattle.image_backend.specs.Contents.{SameFile};
+ghost use Rattle.image_backend.specs.Table.{table_infos};
+ghost use Rattle.image_backend.specs.ImageState.{HoldsTable};
+
+use crate::byte_file::{ByteFile, FileFault};
+use crate::format::block_at;
+use crate::table::Table;
+
+/// Reads whole written blocks of a zone.
+pub(crate) fn read<F: ByteFile>(
+    file: &mut F,
+    table: &Table,
+    zone: u32,
+    block: u32,
+    out: &mut [u8],
+) -> Result<(), FileFault>
+    requires known { HoldsTable F.is_open F.is_sized F.size table.now file.old }
+    requires is_zone { zone < table.now.geometry.zones }
+    requires whole { length out.old % table.now.geometry.block ≡ 0 }
+    requires written { block + length out.old / table.now.geometry.block ≤ (info_at (table_infos table.now) zone).written }
+    ensures same { SameFile F.is_open F.is_sized F.size F.tells F.contents file.old file.new }
+    ensures cause { HasCause (F.faults file.old) (F.faults file.new) (IsErr result) }
+{
+    let geometry = table.geometry();
+    file.read_at(block_at(&geometry, zone, block), out)
+}

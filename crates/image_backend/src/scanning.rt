@@ -1,0 +1,143 @@
+// Whether a file holds an image, and which zones it has.
+ghost use Rattle.std.specs.Prelude.{◌≡◌, ◌*◌, map, length, is_some, IfOk, IfSome, OnOk, IsTrue, IsErrOf};
+ghost use Rattle.std.specs.List.{list_all};
+ghost use Rattle.zone_image.specs.Image.{is_valid};
+ghost use Rattle.zone_image.specs.Changes.{chunks};
+ghost use Rattle.zone_image.specs.Counts.{HasCause};
+ghost use Rattle.zone_image.specs.Infos.{active_zones};
+ghost use Rattle.image_backend.specs.Format.{is_descriptor, are_possible};
+ghost use Rattle.image_backend.specs.Table.{slot_info, slots_of, table_of, IsTable};
+ghost use Rattle.image_backend.specs.ImageState.{HoldsZones, HoldsTable};
+
+use crate::byte_file::{ByteFile, FileFault};
+use crate::format::{self, DESCRIPTOR_BYTES, HEADER_BYTES, PAGE};
+use crate::table::{Slot, Table};
+use std::alloc::{AllocError, Global};
+use zone_image::Geometry;
+use zoned_device::ProbeError;
+
+/// Looks whether a file holds an image, and at its zones.
+pub(crate) fn scan<F: ByteFile>(alloc: Global, file: &mut F) -> Result<Table, ProbeError>
+    ensures found { IfOk result (λ t. HoldsTable F.is_open F.is_sized F.size t file.new) }
+    ensures cause { HasCause (F.faults file.old) (F.faults file.new) (IsErrOf result ProbeError.Failed) }
+{
+    let size = open_file(file)?;
+    let geometry = read_geometry(file, size)?;
+    read_table(alloc, file, geometry)
+}
+
+// Opens the file, and answers its length.
+fn open_file<F: ByteFile>(file: &mut F) -> Result<u64, ProbeError>
+    ensures opened { OnOk result (F.is_open file.new) }
+    ensures known { OnOk result (F.is_sized file.new) }
+    ensures size { IfOk result (λ size. size ≡ F.size file.new) }
+    ensures cause { HasCause (F.faults file.old) (F.faults file.new) (IsErrOf result ProbeError.Failed) }
+{
+    if !file.open()? {
+        return Err(ProbeError::NotAnImage);
+    }
+    Ok(file.len()?)
+}
+
+// The geometry of a file that is long enough for it.
+fn read_geometry<F: ByteFile>(file: &mut F, size: u64) -> Result<Geometry, ProbeError>
+    requires opened { F.is_open file.old }
+    requires known { F.is_sized file.old }
+    requires size { size ≡ F.size file.old }
+    ensures valid { IfOk result (λ g. IsTrue (is_valid g)) }
+    ensures holds { IfOk result (λ g. HoldsZones F.is_open F.is_sized F.size g file.new) }
+    ensures cause { HasCause (F.faults file.old) (F.faults file.new) (IsErrOf result ProbeError.Failed) }
+{
+    if size < PAGE {
+        return Err(ProbeError::NotAnImage);
+    }
+    let mut header = [0; HEADER_BYTES];
+    file.read_at(0, &mut header)?;
+    let geometry = format::geometry(&header).ok_or(ProbeError::NotAnImage)?;
+    if size < format::image_bytes(&geometry) {
+        return Err(ProbeError::NotAnImage);
+    }
+    Ok(geometry)
+}
+
+// The zones of a file that has descriptors for as many.
+fn read_table<F: ByteFile>(
+    alloc: Global,
+    file: &mut F,
+    geometry: Geometry,
+) -> Result<Table, ProbeError>
+    requires valid { IsTrue (is_valid geometry) }
+    requires holds { HoldsZones F.is_open F.is_sized F.size geometry file.old }
+    ensures found { IfOk result (λ t. HoldsTable F.is_open F.is_sized F.size t file.new) }
+    ensures cause { HasCause (F.faults file.old) (F.faults file.new) (IsErrOf result ProbeError.Failed) }
+{
+    let size = geometry.zones as usize * DESCRIPTOR_BYTES;
+    let mut bytes = match vec![in alloc; 0u8; size] {
+        Ok(bytes) => bytes,
+        Err(_) => return Err(ProbeError::NoMemory),
+    };
+    file.read_at(PAGE, &mut bytes)?;
+    match table_in(alloc, geometry, &bytes) {
+        Ok(Some(table)) => Ok(table),
+        Ok(None) => Err(ProbeError::NotAnImage),
+        Err(_) => Err(ProbeError::NoMemory),
+    }
+}
+
+// The zones of these descriptors, if they are possible.
+fn table_in(alloc: Global, geometry: Geometry, bytes: &[u8]) -> Result<Option<Table>, AllocError>
+    requires valid { IsTrue (is_valid geometry) }
+    requires size { length bytes.now ≡ geometry.zones * 8 }
+    ensures exact { IfOk result (λ table. is_some table ≡ are_possible geometry (chunks 8 geometry.zones bytes.now)) }
+    ensures found { IfOk result (λ table. IfSome table (λ t. t ≡ table_of geometry (chunks 8 geometry.zones bytes.now))) }
+    ensures possible { IfOk result (λ table. IfSome table IsTable) }
+{
+    let slots = match slots_in(alloc, &geometry, bytes)? {
+        Some(slots) => slots,
+        None => return Ok(None),
+    };
+    if active_count(&slots) > geometry.active_limit as usize {
+        return Ok(None);
+    }
+    Ok(Some(Table::new(geometry, slots)))
+}
+
+// What descriptors say, if each of them is possible.
+fn slots_in(
+    alloc: Global,
+    geometry: &Geometry,
+    bytes: &[u8],
+) -> Result<Option<Vec<Slot>>, AllocError>
+    requires { length bytes.now ≡ geometry.now.zones * 8 }
+    ensures exact { IfOk result (λ slots. is_some slots ≡ list_all (is_descriptor geometry.now) (chunks 8 geometry.now.zones bytes.now)) }
+    ensures found { IfOk result (λ slots. IfSome slots (λ s. s.items ≡ slots_of (chunks 8 geometry.now.zones bytes.now))) }
+{
+    let mut slots = Vec::with_capacity(alloc, geometry.zones as usize)?;
+    for zone in 0..geometry.zones {
+        let start = zone as usize * DESCRIPTOR_BYTES;
+        let part = &bytes[start..start + DESCRIPTOR_BYTES];
+        match format::info(geometry, part) {
+            Some(info) => slots.push(Slot::of(info))?,
+            None => return Ok(None),
+        }
+    }
+    Ok(Some(slots))
+}
+
+// How many zones are active.
+fn active_count(slots: &[Slot]) -> usize
+    ensures { result ≡ active_zones (map slot_info slots.now) }
+{
+    slots.iter().filter(|slot| slot.is_active()).count()
+}
+
+impl From<FileFault> for ProbeError {
+    ghost use Rattle.zoned_device.specs.declared.error.ProbeError.TheVariants.{Failed};
+    ghost use Rattle.std.specs.Prelude.{◌≡◌};
+
+    ghost from_gives = { λ _ e. e ≡ Failed };
+
+    fn from(_: FileFault) -> Self {
+        ProbeError::Failed
+    }
+}

@@ -1,0 +1,32 @@
+// The utility `zenfs`: this program reads its words, and `zenfs_cmd` does what they ask.
+#![tactic(auto)]
+
+mod images;
+#[cfg(test)]
+mod tests;
+mod words;
+
+use fs_report::{OutSink, Status};
+use images::zones_of;
+use std::process::ExitCode;
+use words::words_of;
+
+fn main(rt: HostRuntime) -> ExitCode {
+    ExitCode::from(answer(rt).code())
+}
+
+// Does what the words ask, over the image file that they name.
+fn answer(rt: HostRuntime) -> Status {
+    let mut out = OutSink::new(rt.stdout());
+    let mut err = OutSink::new(rt.stderr());
+    let words = match words_of(rt) {
+        Ok(words) => words,
+        Err(refusal) => return zenfs_cmd::refuse(&mut err, refusal),
+    };
+    let zones = match zones_of(rt, words.as_slice()) {
+        Ok(zones) => zones,
+        Err(refusal) => return zenfs_cmd::refuse(&mut err, refusal),
+    };
+    let (status, _) = zenfs_cmd::run(rt.alloc(), words.as_slice(), zones, &mut out, &mut err);
+    status
+}
