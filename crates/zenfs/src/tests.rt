@@ -5,6 +5,7 @@ use meta_log::spell;
 use std::alloc::Global;
 use std::fs;
 use std::fs::OpenOptions;
+use std::process::Abort;
 use std::test::Fail;
 use superblock_core::{AuxPath, Superblock, VersionText};
 use zenfs_cmd::run;
@@ -24,7 +25,12 @@ const A_TXT: &[u8] =
     b"\x01\0\0\0\x43\x42\x01\0\0\0\x01\0\0\0\0\0\0\0\x03\0\0\0\0\0\0\0\0\0\0\0\x04\0\0\0\0\0\0\0\x06\0\0\0\x00\xf1\x53\x65\0\0\0\0\x07\0\0\0\xff\xff\xff\xff\xff\xff\xff\xff\x09\0\0\0\x05a.txt";
 
 // Writes an image whose zone 0 has a superblock and this snapshot.
-fn write_image(rt: HostRuntime, path: &str, snapshot: &[u8]) -> Result<(), Fail> {
+fn write_image(
+    abort: &impl Abort,
+    rt: HostRuntime,
+    path: &str,
+    snapshot: &[u8],
+) -> Result<(), Fail> {
     let alloc = rt.alloc();
     let superblock = Superblock {
         id: 0,
@@ -39,10 +45,10 @@ fn write_image(rt: HostRuntime, path: &str, snapshot: &[u8]) -> Result<(), Fail>
     };
     let mut bytes = [0; 512];
     superblock.encode(&mut bytes);
-    assert!(rt; !snapshot.is_empty() && snapshot.len() < 500);
+    assert!(abort; !snapshot.is_empty() && snapshot.len() < 500);
     let mut log = spell(alloc, &bytes, 512)?.items().to_vec(alloc)?;
     log.extend_from_slice(spell(alloc, snapshot, 512)?.items())?;
-    assert!(rt; log.len() == 1536);
+    assert!(abort; log.len() == 1536);
     let file = DiskFile::new(rt, String::from_str(alloc, path)?);
     let mut zones = ImageZones::new(alloc, file);
     zones.make(&SHAPE)?;
@@ -73,13 +79,19 @@ fn an_image_file_is_listed_and_a_cut_or_absent_one_is_none(rt: HostRuntime) -> R
     let path = "zenfs_test.img";
     let option = "--image=zenfs_test.img";
     let _ = fs::remove_file(&rt, path);
-    write_image(rt, path, A_TXT)?;
+    write_image(&rt, rt, path, A_TXT)?;
     let (status, out, err) = listed(rt, option)?;
     assert_eq!(rt; status, Status::Ok);
-    assert_eq!(rt; out.as_slice(), b"           0\t1700000000\ta.txt\n".as_slice());
+    assert_eq!(rt;
+        out.as_slice(),
+        b"           0\t1700000000\ta.txt\n".as_slice()
+    );
     assert_eq!(rt; err.len(), 0);
 
-    OpenOptions::new().write(true).open(&rt, path)?.set_len(270_335)?;
+    OpenOptions::new()
+        .write(true)
+        .open(&rt, path)?
+        .set_len(270_335)?;
     let (status, _, err) = listed(rt, option)?;
     assert_eq!(rt; status, Status::Refused);
     assert_eq!(rt; err.as_slice(), b"zenfs: not a zoned image\n".as_slice());
