@@ -3,7 +3,9 @@ ghost use Rattle.std.specs.Prelude.{◌≡◌, ◌+◌, ◌*◌, ◌/◌, ◌%�
 ghost use Rattle.zone_image.specs.Image.{is_valid};
 ghost use Rattle.zone_image.specs.Infos.{info_at, active_zones, infos_appended, infos_finished, infos_emptied};
 ghost use Rattle.zone_image.specs.Counts.{HasCause, Counts as Counted};
-ghost use Rattle.image_backend.specs.Table.{table_infos, slot_at, slot_appended, slot_finished, no_slot, with_slot, table_synced};
+ghost use Rattle.image_backend.specs.Contents.{patched};
+ghost use Rattle.image_backend.specs.Format.{block_at, descriptor_at, descriptor_bytes};
+ghost use Rattle.image_backend.specs.Table.{table_infos, slot_info, slot_at, slot_appended, slot_finished, no_slot, with_slot, table_synced};
 ghost use Rattle.image_backend.specs.ImageState.{change_counted, HoldsTable, HoldsZones, IsFair};
 
 use crate::byte_file::ByteFile;
@@ -66,6 +68,8 @@ pub(crate) fn finish<F: ByteFile>(
     requires is_zone { zone < table.old.geometry.zones }
     ensures done { OnOk result (table.new ≡ with_slot table.old zone (slot_finished (slot_at table.old zone))) }
     ensures new_infos { OnOk result (table_infos table.new ≡ infos_finished (table_infos table.old) zone) }
+    ensures written { OnOk result (F.tells → F.contents file.new
+        ≡ patched (descriptor_at zone) (descriptor_bytes (slot_info (slot_finished (slot_at table.old zone)))) (F.contents file.old)) }
     ensures not_done { OnErr result (table.new ≡ table.old) }
     ensures still_known { HoldsTable F.is_open F.is_sized F.size table.new file.new }
     ensures refused { IsTrue counts.old.broken → IsErr result }
@@ -90,6 +94,8 @@ pub(crate) fn reset<F: ByteFile>(
     requires is_zone { zone < table.old.geometry.zones }
     ensures done { OnOk result (table.new ≡ with_slot table.old zone no_slot) }
     ensures new_infos { OnOk result (table_infos table.new ≡ infos_emptied (table_infos table.old) zone) }
+    ensures written { OnOk result (F.tells → F.contents file.new
+        ≡ patched (descriptor_at zone) (descriptor_bytes (slot_info no_slot)) (F.contents file.old)) }
     ensures not_done { OnErr result (table.new ≡ table.old) }
     ensures still_known { HoldsTable F.is_open F.is_sized F.size table.new file.new }
     ensures refused { IsTrue counts.old.broken → IsErr result }
@@ -111,6 +117,7 @@ pub(crate) fn sync<F: ByteFile>(
     requires fair { IsFair (F.faults file.old) counts.old }
     ensures done { OnOk result (table.new ≡ table_synced table.old) }
     ensures same_infos { table_infos table.new ≡ table_infos table.old }
+    ensures same_contents { F.tells → F.contents file.new ≡ F.contents file.old }
     ensures not_done { OnErr result (table.new ≡ table.old) }
     ensures still_known { HoldsTable F.is_open F.is_sized F.size table.new file.new }
     ensures refused { IsTrue counts.old.broken → IsErr result }
@@ -142,6 +149,8 @@ fn put_slot<F: ByteFile>(
     ensures done { OnOk result (table.new ≡ with_slot table.old zone slot) }
     ensures not_done { OnErr result (table.new ≡ table.old) }
     ensures holds { HoldsZones F.is_open F.is_sized F.size table.old.geometry file.new }
+    ensures written { OnOk result (F.tells → F.contents file.new
+        ≡ patched (descriptor_at zone) (descriptor_bytes (slot_info slot)) (F.contents file.old)) }
     ensures same_counts { OnOk result (counts.new ≡ counts.old) }
     ensures broken { OnErr result (counts.new ≡ record (change_counted counts.old) { broken = true }) }
     ensures still_fair { IsFair (F.faults file.new) counts.new }
