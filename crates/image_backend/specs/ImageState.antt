@@ -6,9 +6,9 @@ use Rattle.zone_image.specs.Image.{Image}
 use Rattle.zone_image.specs.Infos.{IsPossible}
 use Rattle.zone_image.specs.Counts.{next_count}
 use Rattle.zoned_device.specs.declared.error.MakeError.{MakeError}
-use Rattle.zoned_device.specs.declared.error.MakeError.TheVariants as make
+use Rattle.zoned_device.specs.declared.error.MakeError.TheVariants as make_error
 use Rattle.image_backend.specs.declared.byte_file.SetLenError.{SetLenError}
-use Rattle.image_backend.specs.declared.byte_file.SetLenError.TheVariants as length
+use Rattle.image_backend.specs.declared.byte_file.SetLenError.TheVariants as len_error
 use Rattle.image_backend.specs.declared.counts.Counts.{Counts}
 use Rattle.image_backend.specs.Format.{image_bytes}
 use Rattle.image_backend.specs.Table.{TableState, table_infos, IsTable}
@@ -83,5 +83,5 @@ IsFair file_faults c = c.faults ≤ file_faults + c.refusals
 
 -- why a length can't be set is why an image can't be made
 abbrev pub IsSame : SetLenError → MakeError → Type 0
-IsSame length.Failed e = e ≡ make.Failed
-IsSame length.NoMemory e = e ≡ make.NoMemory
+IsSame len_error.Failed e = e ≡ make_error.Failed
+IsSame len_error.NoMemory e = e ≡ make_error.NoMemory
