@@ -1,10 +1,11 @@
 -- The layout of an image file: a header, a descriptor for each zone, and the zones' bytes.
-use Rattle.std.specs.Prelude.{ℕ, ◌+◌, ◌*◌, Bool, not, ◌&&◌, ◌||◌, List, [], ◌∷◌, ◌++◌, length, take, drop, map, nat_le, ◌==◌, cond}
+use Rattle.std.specs.Prelude.{◌-◌, replicate, ℕ, ◌+◌, ◌*◌, Bool, not, ◌&&◌, ◌||◌, List, [], ◌∷◌, ◌++◌, length, take, drop, map, nat_le, ◌==◌, cond}
 use Rattle.std.specs.Int.{next_multiple_of}
 use Rattle.std.specs.List.{list_all}
 use Rattle.std.specs.Str.{bytes_eq}
 use Rattle.byteorder.specs.Endian.{little_number, little_bytes}
 use Rattle.crc32c_core.specs.Checksum.{crc32c, masked}
+use Rattle.image_backend.specs.Contents.{resized, patched}
 use Rattle.zone_image.specs.declared.Geometry.{Geometry}
 use Rattle.zone_image.specs.declared.ZoneInfo.{ZoneInfo}
 use Rattle.zone_image.specs.Address.{is_valid, zone_bytes, device_bytes}
@@ -106,3 +107,7 @@ unfoldable pub is_image : List ℕ → Bool
 is_image bytes =
     nat_le page (length bytes) && is_header (take header_size bytes) && nat_le (image_bytes (geometry_of bytes)) (length bytes)
     && are_possible (geometry_of bytes) (descriptors_in (geometry_of bytes) bytes)
+
+-- the bytes of a file after an image was made in place of these: its length, zeros from the header to the zones, and the header
+abbrev pub new_image : Geometry → List ℕ → List ℕ
+new_image g bytes = patched 0 (header_bytes g) (patched header_size (replicate (zones_at g - header_size) 0) (resized (image_bytes g) bytes))

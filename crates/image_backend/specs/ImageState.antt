@@ -1,14 +1,14 @@
 -- The state of a device over an image file, and what it tells.
-use Rattle.std.specs.Prelude.{◌≡◌, ℕ, ◌≤◌, false, List, [], Option, None, Some}
+use Rattle.std.specs.Prelude.{◌≡◌, ℕ, ◌+◌, ◌≤◌, false, List, [], Option, None, Some}
 use Rattle.zone_image.specs.declared.Geometry.{Geometry}
 use Rattle.zone_image.specs.declared.ZoneInfo.{ZoneInfo}
 use Rattle.zone_image.specs.Image.{Image}
 use Rattle.zone_image.specs.Infos.{IsPossible}
 use Rattle.zone_image.specs.Counts.{next_count}
 use Rattle.zoned_device.specs.declared.error.MakeError.{MakeError}
-use Rattle.zoned_device.specs.declared.error.MakeError.TheVariants as make
+use Rattle.zoned_device.specs.declared.error.MakeError.TheVariants as make_error
 use Rattle.image_backend.specs.declared.byte_file.SetLenError.{SetLenError}
-use Rattle.image_backend.specs.declared.byte_file.SetLenError.TheVariants as length
+use Rattle.image_backend.specs.declared.byte_file.SetLenError.TheVariants as len_error
 use Rattle.image_backend.specs.declared.counts.Counts.{Counts}
 use Rattle.image_backend.specs.Format.{image_bytes}
 use Rattle.image_backend.specs.Table.{TableState, table_infos, IsTable}
@@ -63,7 +63,7 @@ no_image = record { geometry = no_geometry; zones = [] }
 
 -- the counts at the begin
 abbrev pub no_counts : Counts
-no_counts = record { broken = false; faults = 0; failed_changes = 0 }
+no_counts = record { broken = false; faults = 0; failed_changes = 0; refusals = 0 }
 
 -- after a call that failed
 abbrev pub fault_counted : Counts → Counts
@@ -73,7 +73,15 @@ fault_counted c = record c { faults = next_count c.faults }
 abbrev pub change_counted : Counts → Counts
 change_counted c = record c { faults = next_count c.faults; failed_changes = next_count c.failed_changes }
 
+-- after a change that is refused since a descriptor's write failed
+abbrev pub refusal_counted : Counts → Counts
+refusal_counted c = record (change_counted c) { refusals = next_count c.refusals }
+
+-- there are no more faults than the file's and the refused changes
+abbrev pub IsFair : ℕ → Counts → Type 0
+IsFair file_faults c = c.faults ≤ file_faults + c.refusals
+
 -- why a length can't be set is why an image can't be made
 abbrev pub IsSame : SetLenError → MakeError → Type 0
-IsSame length.Failed e = e ≡ make.Failed
-IsSame length.NoMemory e = e ≡ make.NoMemory
+IsSame len_error.Failed e = e ≡ make_error.Failed
+IsSame len_error.NoMemory e = e ≡ make_error.NoMemory

@@ -3,8 +3,10 @@ ghost use Rattle.std.specs.Prelude.{◌≡◌, ◌+◌, ◌*◌, ◌/◌, ◌%�
 ghost use Rattle.zone_image.specs.Image.{is_valid};
 ghost use Rattle.zone_image.specs.Infos.{info_at, active_zones, infos_appended, infos_finished, infos_emptied};
 ghost use Rattle.zone_image.specs.Counts.{HasCause, Counts as Counted};
-ghost use Rattle.image_backend.specs.Table.{table_infos, slot_at, slot_appended, slot_finished, no_slot, with_slot, table_synced};
-ghost use Rattle.image_backend.specs.ImageState.{change_counted, HoldsTable, HoldsZones};
+ghost use Rattle.image_backend.specs.Contents.{patched};
+ghost use Rattle.image_backend.specs.Format.{block_at, descriptor_at, descriptor_bytes};
+ghost use Rattle.image_backend.specs.Table.{table_infos, slot_info, slot_at, slot_appended, slot_finished, no_slot, with_slot, table_synced};
+ghost use Rattle.image_backend.specs.ImageState.{change_counted, HoldsTable, HoldsZones, IsFair};
 
 use crate::byte_file::ByteFile;
 use crate::counts::Counts;
@@ -21,6 +23,7 @@ pub(crate) fn append<F: ByteFile>(
     bytes: &[u8],
 ) -> Result<u32, DevFault>
     requires known { HoldsTable F.is_open F.is_sized F.size table.old file.old }
+    requires fair { IsFair (F.faults file.old) counts.old }
     requires is_zone { zone < table.old.geometry.zones }
     requires whole { length bytes.now % table.old.geometry.block ≡ 0 }
     requires unsealed { (info_at (table_infos table.old) zone).sealed ≡ false }
@@ -36,6 +39,7 @@ pub(crate) fn append<F: ByteFile>(
     ensures not_done { OnErr result (table.new ≡ table.old) }
     ensures still_known { HoldsTable F.is_open F.is_sized F.size table.new file.new }
     ensures refused { IsTrue counts.old.broken → IsErr result }
+    ensures still_fair { IsFair (F.faults file.new) counts.new }
     ensures cause { HasCause counts.old.faults counts.new.faults (IsErr result) }
     ensures changes { Counted counts.old.failed_changes counts.new.failed_changes result }
 {
@@ -60,12 +64,16 @@ pub(crate) fn finish<F: ByteFile>(
     zone: u32,
 ) -> Result<(), DevFault>
     requires known { HoldsTable F.is_open F.is_sized F.size table.old file.old }
+    requires fair { IsFair (F.faults file.old) counts.old }
     requires is_zone { zone < table.old.geometry.zones }
     ensures done { OnOk result (table.new ≡ with_slot table.old zone (slot_finished (slot_at table.old zone))) }
     ensures new_infos { OnOk result (table_infos table.new ≡ infos_finished (table_infos table.old) zone) }
+    ensures written { OnOk result (F.tells → F.contents file.new
+        ≡ patched (descriptor_at zone) (descriptor_bytes (slot_info (slot_finished (slot_at table.old zone)))) (F.contents file.old)) }
     ensures not_done { OnErr result (table.new ≡ table.old) }
     ensures still_known { HoldsTable F.is_open F.is_sized F.size table.new file.new }
     ensures refused { IsTrue counts.old.broken → IsErr result }
+    ensures still_fair { IsFair (F.faults file.new) counts.new }
     ensures cause { HasCause counts.old.faults counts.new.faults (IsErr result) }
     ensures changes { Counted counts.old.failed_changes counts.new.failed_changes result }
 {
@@ -82,12 +90,16 @@ pub(crate) fn reset<F: ByteFile>(
     zone: u32,
 ) -> Result<(), DevFault>
     requires known { HoldsTable F.is_open F.is_sized F.size table.old file.old }
+    requires fair { IsFair (F.faults file.old) counts.old }
     requires is_zone { zone < table.old.geometry.zones }
     ensures done { OnOk result (table.new ≡ with_slot table.old zone no_slot) }
     ensures new_infos { OnOk result (table_infos table.new ≡ infos_emptied (table_infos table.old) zone) }
+    ensures written { OnOk result (F.tells → F.contents file.new
+        ≡ patched (descriptor_at zone) (descriptor_bytes (slot_info no_slot)) (F.contents file.old)) }
     ensures not_done { OnErr result (table.new ≡ table.old) }
     ensures still_known { HoldsTable F.is_open F.is_sized F.size table.new file.new }
     ensures refused { IsTrue counts.old.broken → IsErr result }
+    ensures still_fair { IsFair (F.faults file.new) counts.new }
     ensures cause { HasCause counts.old.faults counts.new.faults (IsErr result) }
     ensures changes { Counted counts.old.failed_changes counts.new.failed_changes result }
 {
@@ -102,11 +114,14 @@ pub(crate) fn sync<F: ByteFile>(
     counts: &mut Counts,
 ) -> Result<(), DevFault>
     requires known { HoldsTable F.is_open F.is_sized F.size table.old file.old }
+    requires fair { IsFair (F.faults file.old) counts.old }
     ensures done { OnOk result (table.new ≡ table_synced table.old) }
     ensures same_infos { table_infos table.new ≡ table_infos table.old }
+    ensures same_contents { F.tells → F.contents file.new ≡ F.contents file.old }
     ensures not_done { OnErr result (table.new ≡ table.old) }
     ensures still_known { HoldsTable F.is_open F.is_sized F.size table.new file.new }
     ensures refused { IsTrue counts.old.broken → IsErr result }
+    ensures still_fair { IsFair (F.faults file.new) counts.new }
     ensures cause { HasCause counts.old.faults counts.new.faults (IsErr result) }
     ensures changes { Counted counts.old.failed_changes counts.new.failed_changes result }
 {
@@ -129,12 +144,16 @@ fn put_slot<F: ByteFile>(
     requires valid { IsTrue (is_valid table.old.geometry) }
     requires count { length table.old.slots ≡ table.old.geometry.zones }
     requires holds { HoldsZones F.is_open F.is_sized F.size table.old.geometry file.old }
+    requires fair { IsFair (F.faults file.old) counts.old }
     requires is_zone { zone < table.old.geometry.zones }
     ensures done { OnOk result (table.new ≡ with_slot table.old zone slot) }
     ensures not_done { OnErr result (table.new ≡ table.old) }
     ensures holds { HoldsZones F.is_open F.is_sized F.size table.old.geometry file.new }
+    ensures written { OnOk result (F.tells → F.contents file.new
+        ≡ patched (descriptor_at zone) (descriptor_bytes (slot_info slot)) (F.contents file.old)) }
     ensures same_counts { OnOk result (counts.new ≡ counts.old) }
     ensures broken { OnErr result (counts.new ≡ record (change_counted counts.old) { broken = true }) }
+    ensures still_fair { IsFair (F.faults file.new) counts.new }
     ensures cause { HasCause counts.old.faults counts.new.faults (IsErr result) }
 {
     let bytes = format::descriptor(slot.info());

@@ -27,9 +27,9 @@ impl<F: ByteFile> Model for ImageZones<F> {
 
     ghost view = { λ d. record { file = d.file; table = d.table; counts = d.counts } };
 
-    ghost use Rattle.image_backend.specs.ImageState.{IsHeld};
+    ghost use Rattle.image_backend.specs.ImageState.{IsHeld, IsFair};
 
-    ghost invariant = { λ d. IsHeld F.is_open F.is_sized F.size d.table d.file };
+    ghost invariant = { λ d. IsHeld F.is_open F.is_sized F.size d.table d.file × IsFair (F.faults d.file) d.counts };
 }
 
 impl<F: ByteFile> ImageZones<F> {
@@ -47,6 +47,7 @@ impl<F: ByteFile> ImageZones<F> {
                 broken: false,
                 faults: 0,
                 failed_changes: 0,
+                refusals: 0,
             },
         }
     }

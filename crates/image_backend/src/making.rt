@@ -3,7 +3,7 @@ ghost use Rattle.std.specs.Prelude.{◌≡◌, ◌↔◌, ◌+◌, length, false
 ghost use Rattle.zone_image.specs.Image.{is_valid};
 ghost use Rattle.zone_image.specs.Counts.{HasCause};
 ghost use Rattle.image_backend.specs.Contents.{patched, SameFile};
-ghost use Rattle.image_backend.specs.Format.{header_bytes, zones_at};
+ghost use Rattle.image_backend.specs.Format.{header_bytes, zones_at, new_image};
 ghost use Rattle.image_backend.specs.ImageState.{HoldsZones};
 
 use crate::byte_file::{ByteFile, FileFault, SetLenError};
@@ -35,6 +35,7 @@ pub fn make_image<F: ByteFile>(
     geometry: &Geometry,
 ) -> Result<(), ImageError>
     ensures bad_geometry { IsErrOf result ImageError.BadGeometry ↔ is_valid geometry.now ≡ false }
+    ensures made { OnOk result (F.tells → F.contents file.new ≡ new_image geometry.now (F.contents file.old)) }
     ensures no_memory { IsErrOf result ImageError.NoMemory → F.tells → F.contents file.new ≡ F.contents file.old }
     ensures cause { HasCause (F.faults file.old) (F.faults file.new) (IsErrOf result ImageError.Fault) }
 {
@@ -56,6 +57,7 @@ pub(crate) fn write_image<F: ByteFile>(
 ) -> Result<(), MakeError>
     requires { IsTrue (is_valid geometry.now) }
     ensures holds { OnOk result (HoldsZones F.is_open F.is_sized F.size geometry.now file.new) }
+    ensures made { OnOk result (F.tells → F.contents file.new ≡ new_image geometry.now (F.contents file.old)) }
     ensures same { IsErrOf result MakeError.NoMemory → F.is_open file.old
         → SameFile F.is_open F.is_sized F.size F.tells F.contents file.old file.new }
     ensures same_contents { IsErrOf result MakeError.NoMemory → F.tells → F.contents file.new ≡ F.contents file.old }

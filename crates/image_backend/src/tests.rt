@@ -91,6 +91,45 @@ fn an_image_has_the_length_of_its_header_descriptors_and_zones(
 }
 
 #[test]
+fn what_was_written_is_found_again_by_another_device(rt: HostRuntime) -> Result<(), Fail> {
+    let alloc = rt.alloc();
+    let mut device = ImageZones::new(alloc, MemFile::none(alloc, Vec::new(alloc)));
+    device.make(&SHAPE)?;
+    assert_eq!(rt; device.append(3, &[7; 1024]), Ok(0));
+    assert_eq!(rt; device.finish(3), Ok(()));
+    assert_eq!(rt; device.reset(4), Ok(()));
+    assert_eq!(rt; device.sync(), Ok(()));
+
+    let mut again = ImageZones::new(alloc, device.into_file());
+    assert_eq!(rt; again.probe()?, SHAPE);
+    let info = again.report(3)?;
+    assert_eq!(rt; (info.written, info.sealed), (2, true));
+    let mut read = [0; 512];
+    if info.written > 1 {
+        again.read(3, 1, &mut read)?;
+    }
+    assert_eq!(rt; read.as_slice(), [7; 512].as_slice());
+    assert_eq!(rt; again.faults(), 0);
+    Ok(())
+}
+
+#[test]
+fn a_failed_descriptor_ends_all_changes(rt: HostRuntime) -> Result<(), Fail> {
+    let alloc = rt.alloc();
+    // `make` makes six calls, and the eighth writes the descriptor of the append.
+    let file = MemFile::none(alloc, vec![in alloc; 8]?);
+    let mut device = ImageZones::new(alloc, file);
+    device.make(&SHAPE)?;
+    assert!(rt; device.append(3, &[7; 512]).is_err());
+    assert!(rt; device.finish(4).is_err());
+    assert!(rt; device.reset(5).is_err());
+    assert!(rt; device.sync().is_err());
+    assert_eq!(rt; (device.faults(), device.failed_changes()), (4, 4));
+    assert_eq!(rt; device.report(3)?.written, 0);
+    Ok(())
+}
+
+#[test]
 fn what_breaks_the_format_is_no_image(rt: HostRuntime) -> Result<(), Fail> {
     let alloc = rt.alloc();
     let one_block = [1, 0, 0, 0, 0, 0, 0, 0];

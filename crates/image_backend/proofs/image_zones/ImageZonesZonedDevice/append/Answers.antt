@@ -8,7 +8,7 @@ pub returns-clause-after_fault : goal.returns-clause-after_fault
 returns-clause-after_fault g c =
     let t = c.in-Some.table in
     let there : c.args.self.now.table ≡ Some t = sym (ap (λ d. d.table) c.self.view_is) ∙ c.in-Some.is in
-    let held = subst (λ o. IsHeld g.F.ByteFile.is_open g.F.ByteFile.is_sized g.F.ByteFile.size o c.self.inside.file) c.in-Some.is c.self.invariant in
+    let held = subst (λ o. IsHeld g.F.ByteFile.is_open g.F.ByteFile.is_sized g.F.ByteFile.size o c.self.inside.file) c.in-Some.is c.self.invariant.0 in
     let in_range : c.args.zone < t.geometry.zones = subst (λ o. c.args.zone < (geometry_in o).zones) there c.requires.is_zone in
     append_failed c.append.result t c.append.new.table c.args.zone held.table in_range c.args.self.now.table there c.append.ensures.not_done
     (blocks_in (geometry_in c.args.self.now.table) c.args.bytes.now)

@@ -1,15 +1,8 @@
-use Rattle.std.proofs.Common.{subst, sym, ◌∙◌, ap}
+use Rattle.std.proofs.Common.{subst, sym, ◌∙◌, ap, arith}
 use Rattle.image_backend.specs.Table.{table_infos}
 use Rattle.image_backend.specs.ImageState.{HoldsTable}
 use Rattle.image_backend.proofs.Tables.{infos_with_blank, table_with_blank}
 use Rattle.image_backend.proofs.image_zones.ImageZonesZonedDevice.make.Goals as goal
-
-pub invariant_of-self : goal.invariant_of-self
-invariant_of-self g c =
-    subst (λ t. HoldsTable g.F.ByteFile.is_open g.F.ByteFile.is_sized g.F.ByteFile.size t c.write_image.new.file) (sym c.in_ok-table.ensures) (record {
-      table = table_with_blank c.args.shape.now c.requires;
-      zones = c.in-Ok.ensures.holds;
-    })
 
 pub returns-in-Ok-clause-made : goal.returns-in-Ok-clause-made
 returns-in-Ok-clause-made g c =
@@ -20,3 +13,12 @@ returns-in-Ok-clause-made g c =
 
 pub returns-in-Ok-clause-empty : goal.returns-in-Ok-clause-empty
 returns-in-Ok-clause-empty g c = ap table_infos c.in_ok-table.ensures ∙ infos_with_blank c.args.shape.now
+
+pub invariant_of-self : goal.invariant_of-self
+invariant_of-self g c = (
+  subst (λ t. HoldsTable g.F.ByteFile.is_open g.F.ByteFile.is_sized g.F.ByteFile.size t c.write_image.new.file) (sym c.in_ok-table.ensures) (record {
+    table = table_with_blank c.args.shape.now c.requires;
+    zones = c.in-Ok.ensures.holds;
+  }),
+  omega (arith, c.self.invariant.1, c.in-Ok.ensures.cause.never_falls),
+)
