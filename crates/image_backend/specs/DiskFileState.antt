@@ -1,9 +1,10 @@
 -- What is known of a file on a disk.
-use Rattle.std.specs.Prelude.{◌≡◌, ℕ, Option, Bool}
+use Rattle.std.specs.Prelude.{◌≡◌, ℕ, List, Option, Bool}
 use Rattle.std.specs.Option.{unwrap_or}
 
--- whether it is open, whether it was found to be missing, its length once it is known, and the faults
+-- its path, whether it is open, whether it was found to be missing, its length once it is known, and the faults
 pub record DiskFileState : Type 0 where
+  pub path : List ℕ
   pub opened : Bool
   pub missing : Bool
   pub size : Option ℕ
@@ -15,6 +16,7 @@ disk_size s = unwrap_or s.size 0
 
 -- all but the count of faults is as it was
 pub record SameButFaults (old new : DiskFileState) : Type 0 where
+  pub path : new.path ≡ old.path
   pub opened : new.opened ≡ old.opened
   pub missing : new.missing ≡ old.missing
   pub size : new.size ≡ old.size

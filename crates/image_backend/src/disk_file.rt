@@ -1,5 +1,5 @@
 // A file on a disk.
-ghost use Rattle.std.specs.Prelude.{◌≡◌, None, false, IsErr};
+ghost use Rattle.std.specs.Prelude.{◌≡◌, None, false, IsErr, string_bytes};
 ghost use Rattle.zone_image.specs.Counts.{next_count, HasCause};
 ghost use Rattle.image_backend.specs.DiskFileState.{SameButFaults};
 
@@ -23,18 +23,18 @@ pub struct DiskFile<R: Files<File = File> + Drop> {
 }
 
 impl<R: Files<File = File> + Drop> Model for DiskFile<R> {
-    ghost use Rattle.std.specs.Prelude.{is_some};
+    ghost use Rattle.std.specs.Prelude.{is_some, string_bytes};
     ghost use Rattle.image_backend.specs.DiskFileState.{DiskFileState};
 
     ghost Value = { DiskFileState };
 
-    ghost view = { λ f. record { opened = is_some f.file; missing = f.missing; size = f.size; faults = f.faults } };
+    ghost view = { λ f. record { path = string_bytes f.path; opened = is_some f.file; missing = f.missing; size = f.size; faults = f.faults } };
 }
 
 impl<R: Files<File = File> + Drop> DiskFile<R> {
     /// The file of this path, which isn't opened yet.
     pub fn new(runtime: R, path: String) -> DiskFile<R>
-        ensures { result ≡ record { opened = false; missing = false; size = None; faults = 0 } }
+        ensures { result ≡ record { path = string_bytes path; opened = false; missing = false; size = None; faults = 0 } }
     {
         DiskFile {
             runtime,
