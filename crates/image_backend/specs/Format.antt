@@ -96,17 +96,19 @@ geometry_of bytes = geometry_in (take header_size bytes)
 
 -- the descriptors of a file
 abbrev pub descriptors_in : Geometry → List ℕ → List (List ℕ)
-descriptors_in g bytes = chunks descriptor_size g.zones (drop page bytes)
+descriptors_in g bytes = chunks descriptor_size g.zones (take (g.zones * descriptor_size) (drop page bytes))
 
 -- descriptors are possible, and so is the number of active zones
 abbrev pub are_possible : Geometry → List (List ℕ) → Bool
 are_possible g descriptors = list_all (is_descriptor g) descriptors && nat_le (active_zones (map info_in descriptors)) g.active_limit
 
--- the bytes of a file hold an image: they are long enough, and header and descriptors are right
-unfoldable pub is_image : List ℕ → Bool
-is_image bytes =
-    nat_le page (length bytes) && is_header (take header_size bytes) && nat_le (image_bytes (geometry_of bytes)) (length bytes)
-    && are_possible (geometry_of bytes) (descriptors_in (geometry_of bytes) bytes)
+-- the bytes of a file begin with a right header and are as many as it says
+abbrev pub has_header : List ℕ → Bool
+has_header bytes = nat_le page (length bytes) && is_header (take header_size bytes) && nat_le (image_bytes (geometry_of bytes)) (length bytes)
+
+-- the bytes of a file hold an image: header, length and descriptors are right
+abbrev pub is_image : List ℕ → Bool
+is_image bytes = has_header bytes && are_possible (geometry_of bytes) (descriptors_in (geometry_of bytes) bytes)
 
 -- the bytes of a file after an image was made in place of these: its length, zeros from the header to the zones, and the header
 abbrev pub new_image : Geometry → List ℕ → List ℕ

@@ -1,13 +1,10 @@
 -- What is known of the zones of an image file.
-use Rattle.std.specs.Prelude.{ℕ, ◌+◌, ◌≤◌, true, false, ◌||◌, List, [], ◌∷◌, map, drop, replicate, ◌==◌, All, slice_index_or, slice_set}
+use Rattle.std.specs.Prelude.{ℕ, ◌+◌, ◌≤◌, true, false, ◌||◌, List, map, replicate, ◌==◌, All, slice_index_or, slice_set}
 use Rattle.zone_image.specs.declared.Geometry.{Geometry}
 use Rattle.zone_image.specs.declared.ZoneInfo.{ZoneInfo}
-use Rattle.zone_image.specs.Address.{zone_bytes}
-use Rattle.zone_image.specs.Image.{Zone, Image}
-use Rattle.zone_image.specs.Changes.{chunks}
 use Rattle.zone_image.specs.Infos.{IsPossible}
 use Rattle.image_backend.specs.declared.table.Slot.{Slot}
-use Rattle.image_backend.specs.Format.{zones_at, info_in, geometry_of, descriptors_in}
+use Rattle.image_backend.specs.Format.{info_in, geometry_of, descriptors_in}
 
 -- the geometry, and for each zone its written blocks, its durable ones and its seal
 pub record TableState : Type 0 where
@@ -62,19 +59,6 @@ table_synced t = record t { slots = map slot_synced t.slots }
 pub record IsTable (t : TableState) : Type 0 where
   pub possible : IsPossible t.geometry (table_infos t)
   pub kept : All (λ s. s.kept ≤ s.written) t.slots
-
--- the zone whose bytes begin here
-abbrev pub zone_in : Geometry → Slot → List ℕ → Zone
-zone_in g s area = record { blocks = chunks g.block s.written area; kept = s.kept; sealed = s.sealed }
-
--- the zones whose bytes stand here, one after the other
-abbrev pub zones_in : Geometry → List Slot → List ℕ → List Zone
-zones_in g [] area = []
-zones_in g (s ∷ ss) area = zone_in g s area ∷ zones_in g ss (drop (zone_bytes g) area)
-
--- the image of a table over the bytes of a file
-abbrev pub image_in : TableState → List ℕ → Image
-image_in t bytes = record { geometry = t.geometry; zones = zones_in t.geometry t.slots (drop (zones_at t.geometry) bytes) }
 
 -- what descriptors say
 abbrev pub slots_of : List (List ℕ) → List Slot

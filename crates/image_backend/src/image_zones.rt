@@ -10,8 +10,9 @@ use std::marker::Model;
 use zone_image::{Geometry, ZoneInfo};
 use zoned_device::{DevFault, MakeError, ProbeError, ZonedDevice};
 
-/// A device over a file that holds an image. After a failed write of a descriptor each later append, finish, reset
-/// and sync fails. Apart from these, it fails only where its file does.
+/// A device over a file that holds an image. It tells its geometry, and the written number and the seal of each zone,
+/// and says nothing of its blocks. After a failed write of a descriptor each later append, finish, reset and sync
+/// fails. Apart from these, it has no more faults than its file.
 #[derive(Drop)]
 pub struct ImageZones<F: ByteFile> {
     alloc: Global,

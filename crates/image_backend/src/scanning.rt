@@ -1,12 +1,12 @@
 // Whether a file holds an image, and which zones it has.
-ghost use Rattle.std.specs.Prelude.{◌≡◌, ◌*◌, map, length, is_some, IfOk, IfSome, OnOk, IsTrue, IsErrOf};
+ghost use Rattle.std.specs.Prelude.{◌≡◌, ◌*◌, [], true, false, map, length, is_some, IfOk, IfSome, OnOk, IsTrue, IsErrOf};
 ghost use Rattle.std.specs.List.{list_all};
 ghost use Rattle.zone_image.specs.Image.{is_valid};
 ghost use Rattle.zone_image.specs.Changes.{chunks};
 ghost use Rattle.zone_image.specs.Counts.{HasCause};
 ghost use Rattle.zone_image.specs.Infos.{active_zones};
-ghost use Rattle.image_backend.specs.Format.{is_descriptor, are_possible};
-ghost use Rattle.image_backend.specs.Table.{slot_info, slots_of, table_of, IsTable};
+ghost use Rattle.image_backend.specs.Format.{is_descriptor, are_possible, geometry_of, descriptors_in, has_header, is_image};
+ghost use Rattle.image_backend.specs.Table.{slot_info, slots_of, table_of, table_in, IsTable};
 ghost use Rattle.image_backend.specs.ImageState.{HoldsZones, HoldsTable};
 
 use crate::byte_file::{ByteFile, FileFault};
@@ -19,6 +19,10 @@ use zoned_device::ProbeError;
 /// Looks whether a file holds an image, and at its zones.
 pub(crate) fn scan<F: ByteFile>(alloc: Global, file: &mut F) -> Result<Table, ProbeError>
     ensures found { IfOk result (λ t. HoldsTable F.is_open F.is_sized F.size t file.new) }
+    ensures table { IfOk result (λ t. F.tells → t ≡ table_in (F.contents file.old)) }
+    ensures right { OnOk result (F.tells → is_image (F.contents file.old) ≡ true) }
+    ensures wrong { IsErrOf result ProbeError.NotAnImage → F.tells → is_image (F.contents file.old) ≡ false }
+    ensures same { F.tells → F.contents file.new ≡ F.contents file.old }
     ensures cause { HasCause (F.faults file.old) (F.faults file.new) (IsErrOf result ProbeError.Failed) }
 {
     let size = open_file(file)?;
@@ -31,6 +35,8 @@ fn open_file<F: ByteFile>(file: &mut F) -> Result<u64, ProbeError>
     ensures opened { OnOk result (F.is_open file.new) }
     ensures known { OnOk result (F.is_sized file.new) }
     ensures size { IfOk result (λ size. size ≡ F.size file.new) }
+    ensures absent { IsErrOf result ProbeError.NotAnImage → F.tells → F.contents file.old ≡ [] }
+    ensures same { F.tells → F.contents file.new ≡ F.contents file.old }
     ensures cause { HasCause (F.faults file.old) (F.faults file.new) (IsErrOf result ProbeError.Failed) }
 {
     if !file.open()? {
@@ -46,6 +52,10 @@ fn read_geometry<F: ByteFile>(file: &mut F, size: u64) -> Result<Geometry, Probe
     requires size { size ≡ F.size file.old }
     ensures valid { IfOk result (λ g. IsTrue (is_valid g)) }
     ensures holds { IfOk result (λ g. HoldsZones F.is_open F.is_sized F.size g file.new) }
+    ensures found { IfOk result (λ g. F.tells → g ≡ geometry_of (F.contents file.old)) }
+    ensures right { OnOk result (F.tells → has_header (F.contents file.old) ≡ true) }
+    ensures wrong { IsErrOf result ProbeError.NotAnImage → F.tells → has_header (F.contents file.old) ≡ false }
+    ensures same { F.tells → F.contents file.new ≡ F.contents file.old }
     ensures cause { HasCause (F.faults file.old) (F.faults file.new) (IsErrOf result ProbeError.Failed) }
 {
     if size < PAGE {
@@ -69,6 +79,11 @@ fn read_table<F: ByteFile>(
     requires valid { IsTrue (is_valid geometry) }
     requires holds { HoldsZones F.is_open F.is_sized F.size geometry file.old }
     ensures found { IfOk result (λ t. HoldsTable F.is_open F.is_sized F.size t file.new) }
+    ensures table { IfOk result (λ t. F.tells → t ≡ table_of geometry (descriptors_in geometry (F.contents file.old))) }
+    ensures right { OnOk result (F.tells → are_possible geometry (descriptors_in geometry (F.contents file.old)) ≡ true) }
+    ensures wrong { IsErrOf result ProbeError.NotAnImage → F.tells
+        → are_possible geometry (descriptors_in geometry (F.contents file.old)) ≡ false }
+    ensures same { F.tells → F.contents file.new ≡ F.contents file.old }
     ensures cause { HasCause (F.faults file.old) (F.faults file.new) (IsErrOf result ProbeError.Failed) }
 {
     let size = geometry.zones as usize * DESCRIPTOR_BYTES;
