@@ -1,8 +1,9 @@
 // The image file that the words name.
-ghost use Rattle.std.specs.Prelude.{◌≡◌, [], None, false, IfOk, map, string_bytes};
+ghost use Rattle.std.specs.Prelude.{◌≡◌, [], None, false, IfOk, IfErr, map, string_bytes};
 ghost use Rattle.std.specs.Option.{unwrap_or};
 ghost use Rattle.image_backend.specs.ImageState.{no_counts};
 ghost use Rattle.zenfs_cmd.specs.Words.{listed_image};
+ghost use Rattle.zenfs_cmd.specs.declared.refusal.Refusal.TheVariants as Refusal;
 
 use image_backend::{DiskFile, ImageZones};
 use zenfs_cmd::{Refusal, image_path};
@@ -12,7 +13,8 @@ pub(crate) fn zones_of(
     rt: HostRuntime,
     words: &[String],
 ) -> Result<ImageZones<DiskFile<HostRuntime>>, Refusal>
-    ensures { IfOk result (λ z. z ≡ record { file = record { path = unwrap_or (listed_image (map string_bytes words.now)) []; opened = false; missing = false; size = None; faults = 0 }; table = None; counts = no_counts }) }
+    ensures named { IfOk result (λ z. z ≡ record { file = record { path = unwrap_or (listed_image (map string_bytes words.now)) []; opened = false; missing = false; size = None; faults = 0 }; table = None; counts = no_counts }) }
+    ensures memory { IfErr result (λ refusal. refusal ≡ Refusal.NoMemory) }
 {
     let alloc = rt.alloc();
     let named = image_path(words).unwrap_or("");

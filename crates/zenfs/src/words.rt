@@ -1,10 +1,15 @@
 // The words that the program is started with.
+ghost use Rattle.std.specs.Prelude.{◌≡◌, ◌⊎◌, IfErr};
+ghost use Rattle.zenfs_cmd.specs.declared.refusal.Refusal.TheVariants as Refusal;
+
 use std::env;
 use std::io::ErrorKind;
 use zenfs_cmd::Refusal;
 
 // The words behind the program's name. A word that isn't text makes a bad command line.
-pub(crate) fn words_of(rt: HostRuntime) -> Result<Vec<String>, Refusal> {
+pub(crate) fn words_of(rt: HostRuntime) -> Result<Vec<String>, Refusal>
+    ensures { IfErr result (λ refusal. (refusal ≡ Refusal.Words) ⊎ (refusal ≡ Refusal.NoMemory)) }
+{
     let mut args = match env::args(&rt) {
         Ok(args) => args,
         Err(error) if error.kind() == ErrorKind::OutOfMemory => return Err(Refusal::NoMemory),
