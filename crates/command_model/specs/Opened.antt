@@ -4,6 +4,7 @@ use Rattle.std.specs.Str.{is_utf8, chars}
 use lib.Utf8
 use Rattle.std.specs.Fmt.{digits}
 use Rattle.record_model.specs.Name.{is_name}
+use Rattle.uuid.specs.Text.{by_index}
 use Rattle.superblock_core.specs.Superblock.{uuid_text}
 use Rattle.fs_model.specs.LogSteps.{NoValue}
 use Rattle.fs_model.specs.Turn.{LockAction}
@@ -32,5 +33,5 @@ restoring bytes = bytes
 
 -- texts, down to the digits of their numbers
 unfoldable pub printing : List ℕ → List ℕ
-unfolding digits uuid_text list_text df_text info_text dump_text refusal_text
+unfolding digits uuid_text by_index list_text df_text info_text dump_text refusal_text
 printing text = text

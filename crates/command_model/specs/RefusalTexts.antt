@@ -1,8 +1,7 @@
 -- Refusals: their texts and exit statuses.
-use Rattle.std.specs.Prelude.{ℕ, List, [], ◌∷◌, ◌++◌, codes, decimal}
+use Rattle.std.specs.Prelude.{ℕ, zero, suc, ◌+◌, ◌/◌, ◌%◌, List, [], ◌∷◌, ◌++◌, codes, decimal, nat_lt, if◌then◌else◌}
 use Rattle.record_model.specs.declared.fault.Why.{Why}
 use Rattle.record_model.specs.declared.fault.Why.TheVariants.{Short, Tag, Twice, Missing, Range}
-use Rattle.superblock_core.specs.Superblock.{hex_digits}
 use Rattle.log_model.specs.declared.selection.DamageWhy.{DamageWhy}
 use Rattle.log_model.specs.declared.selection.DamageWhy.TheVariants as why
 use Rattle.log_model.specs.declared.selection.Refusal.{Refusal}
@@ -41,6 +40,15 @@ fault_text at (Tag tag) = codes "record tag " ++ decimal tag ++ codes " at " ++ 
 fault_text at (Twice tag) = codes "record field " ++ decimal tag ++ codes " twice at " ++ decimal at
 fault_text at (Missing tag) = codes "record field " ++ decimal tag ++ codes " missing at " ++ decimal at
 fault_text at Range = codes "record range at " ++ decimal at
+
+-- the byte of a hexadecimal digit, in lower case
+abbrev pub hex_digit : ℕ → ℕ
+hex_digit d = if nat_lt d 10 then 48 + d else 87 + d
+
+-- the last n hexadecimal digits of a number
+abbrev pub hex_digits : ℕ → ℕ → List ℕ
+hex_digits zero v = []
+hex_digits (suc n) v = hex_digits n (v / 16) ++ hex_digit (v % 16) ∷ []
 
 -- the cause of damage
 abbrev pub damage_text : DamageWhy → List ℕ

@@ -1,6 +1,7 @@
 -- Formatting, computed.
 use Rattle.std.specs.Prelude.{◌≡◌, ◌-◌, ◌^◌, [], ◌∷◌, length, codes, Some, None, Ok, false, refl}
 use Rattle.zone_image.specs.Image.{zone_at}
+use Rattle.uuid.specs.Text.{by_index}
 use Rattle.superblock_core.specs.Superblock.{superblock_bytes, superblock_of, uuid_text}
 use Rattle.superblock_core.specs.declared.superblock.Superblock.{Superblock}
 use Rattle.log_model.specs.Mounted.{mounted_in}
@@ -14,12 +15,12 @@ made = new_superblock g 0 (codes "/aux") 0 false
 
 -- the identifiers of no random bits, and of all
 no_bits : uuid_text (identifier_of 0) ≡ codes "00000000-0000-4000-8000-000000000000"
-unfolding uuid_text
+unfolding uuid_text by_index
 no_bits = refl
 
 -- of all random bits
 all_bits : uuid_text (identifier_of (2 ^ 128 - 1)) ≡ codes "ffffffff-ffff-4fff-bfff-ffffffffffff"
-unfolding uuid_text
+unfolding uuid_text by_index
 all_bits = refl
 
 -- a new file system has three blocks

@@ -9,6 +9,7 @@ use Rattle.record_model.specs.Encoding.{payload_of, entry_bytes}
 use Rattle.record_model.specs.FieldDecoding.{slice_at}
 use Rattle.record_model.specs.Decoding.{record_of, entry_at}
 use Rattle.crc32c_core.specs.Checksum.{crc32c, masked}
+use Rattle.uuid.specs.Text.{by_index}
 use Rattle.superblock_core.specs.Superblock.{superblock_bytes, superblock_of, uuid_text}
 use Rattle.log_model.specs.LogScan.{Scan, record_blocks, scan, scan_within, first_item}
 use Rattle.log_model.specs.LogSelection.{select_log}
@@ -21,7 +22,7 @@ use Rattle.log_model.specs.declared.selection.DamageWhy.{DamageWhy}
 
 -- a scan, down to the bytes that were written
 unfoldable pub scanning : ℕ → List (List ℕ) → Scan
-unfolding scan scan_within first_item record_blocks superblock_bytes uuid_text payload_of entry_bytes varint crc32c masked
+unfolding scan scan_within first_item record_blocks superblock_bytes uuid_text by_index payload_of entry_bytes varint crc32c masked
 scanning block blocks = scan block blocks
 
 -- a replay, down to the bytes of its payloads

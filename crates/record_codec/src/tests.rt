@@ -81,8 +81,9 @@ fn fault_of(alloc: Global, parts: &[&[u8]]) -> Result<DecodeFault, Fail> {
 }
 
 #[test]
-fn faults_of_records_stand_where_they_begin(rt: HostRuntime) -> Result<(), Fail> {
-    let cases: [(&[&[u8]], u32, Why); 12] = [
+fn faults_stand_where_they_begin(rt: HostRuntime) -> Result<(), Fail> {
+    let cases: [(&[&[u8]], u32, Why); 44] = [
+        // Records.
         (&[&[1, 0, 0]], 0, Why::Short),
         (&[&[9, 0, 0, 0]], 0, Why::Tag(9)),
         (&[SNAPSHOT, &[5]], 4, Why::Short),
@@ -95,16 +96,7 @@ fn faults_of_records_stand_where_they_begin(rt: HostRuntime) -> Result<(), Fail>
         (&[SNAPSHOT, &[1, 0x80]], 5, Why::Short),
         (&[SNAPSHOT, &[22, 12], ID, &[8], HINT_6], 6, Why::Missing(3)),
         (&[END, &[0]], 4, Why::Range),
-    ];
-    for (parts, at, why) in cases {
-        assert_eq!(rt; fault_of(rt.alloc(), parts)?, DecodeFault { at, why });
-    }
-    Ok(())
-}
-
-#[test]
-fn faults_of_entries_stand_at_the_field(rt: HostRuntime) -> Result<(), Fail> {
-    let cases: [(&[&[u8]], u32, Why); 15] = [
+        // Entries of updates, at the field.
         (&[UPDATE, &[0]], 5, Why::Missing(1)),
         (&[UPDATE, &[18], ID, NAME_A], 5, Why::Missing(3)),
         (&[UPDATE, &[12], NO_ID], 5, Why::Range),
@@ -120,16 +112,27 @@ fn faults_of_entries_stand_at_the_field(rt: HostRuntime) -> Result<(), Fail> {
         (&[UPDATE, &[18], NAME_A, NAME_B, NAME_A], 17, Why::Twice(9)),
         (&[UPDATE, &[7, 9, 0, 0, 0, 2, b'a', b'/']], 5, Why::Range),
         (&[UPDATE, &[7, 9, 0, 0, 0, 0x81, 0, b'a']], 5, Why::Range),
-    ];
-    for (parts, at, why) in cases {
-        assert_eq!(rt; fault_of(rt.alloc(), parts)?, DecodeFault { at, why });
-    }
-    Ok(())
-}
-
-#[test]
-fn faults_of_deletions_stand_at_their_part(rt: HostRuntime) -> Result<(), Fail> {
-    let cases: [(&[&[u8]], u32, Why); 6] = [
+        // Replacements.
+        (&[REPLACEMENT], 4, Why::Short),
+        (&[REPLACEMENT, &[0x80, 0]], 4, Why::Range),
+        (&[REPLACEMENT, &[11], &ID[..11]], 5, Why::Short),
+        (&[REPLACEMENT, &[16], ID, &[2, 0, 0, 0]], 17, Why::Tag(2)),
+        (&[REPLACEMENT, &[24], ID, ID], 17, Why::Twice(1)),
+        (
+            &[REPLACEMENT, &[18], NAME_A, NAME_B, NAME_A],
+            17,
+            Why::Twice(9),
+        ),
+        (&[REPLACEMENT, &[8], HINT_6], 5, Why::Range),
+        (&[REPLACEMENT, &[0]], 5, Why::Missing(1)),
+        (&[REPLACEMENT, &[12], ID], 5, Why::Missing(3)),
+        (&[REPLACEMENT, &[56], FRONT, BACK], 5, Why::Missing(9)),
+        (
+            &[REPLACEMENT, &[66], FRONT, BACK, A_TXT, &[0]],
+            71,
+            Why::Range,
+        ),
+        // Deletions, at their part.
         (&[DELETION, &[7], &ONE[..7]], 5, Why::Short),
         (&[DELETION, &[9], NONE, &[0]], 5, Why::Range),
         (&[DELETION, &[9], ONE, &[0]], 13, Why::Range),

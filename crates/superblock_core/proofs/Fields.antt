@@ -1,6 +1,6 @@
 -- Fields of text, and the tests of text.
 use Rattle.std.proofs.Common.{◌≡◌, ℕ, ◌<◌, Bool, true, false, ◌&&◌, List, ◌++◌, length, take, drop, replicate, Some, None, IsTrue, position, ◌==◌, if◌then◌else◌, refl, sym, ap, subst, ◌∙◌}
-use Rattle.std.proofs.Math.Seq.{take-append_seam}
+use Rattle.std.proofs.Math.Seq.{take-append_seam, take-length}
 use Rattle.std.proofs.lemmas.List.{drop-replicate}
 use Rattle.std.specs.Option.{option_and_then}
 use Rattle.std.specs.List.{list_all}
@@ -57,3 +57,7 @@ FitsField-of_str n bytes text same utf8 short printable = record {
   text = is_text-of_str bytes utf8 (ap (list_all is_printable) same ∙ printable);
   room = subst (λ (l : List ℕ). length l < n) (sym same) short;
 }
+
+-- a list that is taken whole
+pub taken_whole : (xs : List ℕ) (n : ℕ) → length xs ≡ n → xs ≡ take n xs
+taken_whole xs n is = sym (ap (λ k. take k xs) (sym is) ∙ take-length xs)

@@ -1,7 +1,6 @@
 pub mod Fields
-pub mod HexDigits
-pub mod Identifiers
 pub mod Places
 pub mod PaddedTexts
+pub mod WholeNumbers
 pub mod IdentifierText
 pub mod ReadsBack

@@ -12,7 +12,7 @@ use Rattle.superblock_core.specs.declared.superblock.SbError.{SbError}
 use Rattle.superblock_core.specs.declared.superblock.SbError.TheVariants.{Magic, Version, Flags}
 use Rattle.superblock_core.proofs.Places.{joined, nth, place_of, field-at}
 use Rattle.superblock_core.proofs.PaddedTexts.{text_in-padded}
-use Rattle.superblock_core.proofs.IdentifierText.{uuid_in-field}
+use Rattle.superblock_core.proofs.IdentifierText.{length-uuid_text, padded-text, uuid_in-field}
 
 -- what the type of a superblock's fields says, and that it is written by this version
 pub record IsWritable (s : Superblock) : Type 0 where
@@ -47,8 +47,9 @@ length-padded : (n : ℕ) (text : List ℕ) → FitsField n text → length (pad
 length-padded n text fits = omega (arith, length-append text (replicate (n - length text) 0), length-replicate {A = ℕ} (n - length text) 0, fits.room)
 
 length-identifier : (id : ℕ) → length (padded 37 (uuid_text id)) ≡ 37
-unfolding uuid_text
-length-identifier id = refl
+length-identifier id =
+    let whole = padded-text id (uuid_text id) refl in
+    omega (arith, ap length whole, length-append (uuid_text id) (0 ∷ []), length-uuid_text id)
 
 -- the number of a field
 number-at : (s : Superblock) (n at : ℕ) (value : ℕ) → nth n (fields s) ≡ u32 value → value < 2 ^ 32 → place_of n (fields s) ≡ at → u32_at at (superblock_bytes s) ≡ value

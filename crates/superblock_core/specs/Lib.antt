@@ -1,3 +1,2 @@
 pub mod Superblock
 pub mod Text
-pub mod Digits

@@ -1,7 +1,8 @@
 -- The superblock: 512 bytes.
-use Rattle.std.specs.Prelude.{ℕ, zero, suc, ◌+◌, ◌*◌, ◌-◌, ◌/◌, ◌%◌, ◌^◌, Bool, not, ◌&&◌, ◌||◌, List, [], ◌∷◌, ◌++◌, take, drop, replicate, Option, Some, None, Result, Ok, Err, nat_lt, nat_le, ◌==◌, if◌then◌else◌, slice_index}
-use Rattle.std.specs.Int.{w32, from_le_bytes}
-use Rattle.std.specs.Option.{option_map, option_and_then}
+use Rattle.std.specs.Prelude.{ℕ, Bool, not, ◌&&◌, List, ◌++◌, take, drop, replicate, Option, Some, None, Result, Ok, Err, nat_lt, ◌==◌, if◌then◌else◌, slice_index}
+use Rattle.std.specs.Int.{w32, w128, from_le_bytes, from_be_bytes, to_be_bytes}
+use Rattle.std.specs.Option.{option_map}
+use Rattle.uuid.specs.Text.{parsed_hyphenated, hyphenated_text, lower}
 use Rattle.record_model.specs.Numbers.{u32}
 use Rattle.superblock_core.specs.Text.{padded, text_in}
 use Rattle.superblock_core.specs.declared.superblock.Superblock.{Superblock}
@@ -18,31 +19,13 @@ u32_at offset bytes = from_le_bytes w32 (take 4 (drop offset bytes))
 abbrev pub magic : ℕ
 magic = 0x5A454E46
 
--- the value of a hexadecimal digit of either case
-abbrev pub hex_value : ℕ → Option ℕ
-hex_value b =
-    if nat_le 48 b && nat_le b 57 then Some (b - 48)
-    else if nat_le 97 b && nat_le b 102 then Some (b - 87)
-    else if nat_le 65 b && nat_le b 70 then Some (b - 55) else None
-
--- the places of an identifier's text where a hyphen stands
-abbrev pub is_hyphen_place : ℕ → Bool
-is_hyphen_place place = (place == 8) || (place == 13) || (place == 18) || (place == 23)
-
--- the number so far, after the character at a place
-abbrev pub after_character : ℕ → ℕ → ℕ → Option ℕ
-after_character place value b =
-    if is_hyphen_place place then (if b == 45 then Some value else None)
-    else option_map (λ d. 16 * value + d) (hex_value b)
-
--- a text of hexadecimal digits with hyphens at their places, read into a number
-abbrev pub uuid_from : ℕ → ℕ → List ℕ → Option ℕ
-uuid_from place value [] = Some value
-uuid_from place value (b ∷ rest) = option_and_then (λ v. uuid_from (place + 1) v rest) (after_character place value b)
+-- the number of a hyphenated UUID of either case, its first byte the highest
+abbrev pub uuid_of : List ℕ → Option ℕ
+uuid_of text = option_map (from_be_bytes w128) (parsed_hyphenated text)
 
 -- the identifier of a field of 37 bytes
 abbrev pub uuid_in : List ℕ → Option ℕ
-uuid_in field = if slice_index field 36 == 0 then uuid_from 0 0 (take 36 field) else None
+uuid_in field = if slice_index field 36 == 0 then uuid_of (take 36 field) else None
 
 -- the field of the identifier
 abbrev pub id_field : List ℕ → List ℕ
@@ -85,23 +68,9 @@ superblock_of bytes =
     with_text 69 (text_in (path_field bytes)) (λ path.
     with_text 325 (text_in (text_field bytes)) (λ version. Ok (with_numbers bytes id path version))))
 
--- the byte of a hexadecimal digit
-abbrev pub hex_digit : ℕ → ℕ
-hex_digit d = if nat_lt d 10 then 48 + d else 87 + d
-
--- the last n hexadecimal digits of a number
-abbrev pub hex_digits : ℕ → ℕ → List ℕ
-hex_digits zero v = []
-hex_digits (suc n) v = hex_digits n (v / 16) ++ hex_digit (v % 16) ∷ []
-
--- so many digits of an identifier, with so many behind them
-abbrev pub uuid_part : ℕ → ℕ → ℕ → List ℕ
-uuid_part id n low = hex_digits n (id / 16 ^ low)
-
 -- an identifier as it is written, in lower case with hyphens
 unfoldable pub uuid_text : ℕ → List ℕ
-uuid_text id =
-    uuid_part id 8 24 ++ 45 ∷ uuid_part id 4 20 ++ 45 ∷ uuid_part id 4 16 ++ 45 ∷ uuid_part id 4 12 ++ 45 ∷ uuid_part id 12 0
+uuid_text id = hyphenated_text lower (to_be_bytes w128 id)
 
 -- the bytes that are written for a superblock
 unfoldable pub superblock_bytes : Superblock → List ℕ

@@ -1,6 +1,6 @@
 use Rattle.std.proofs.Common.{◌≡◌, ◌∙◌, ap, refl, arith, length}
 use Rattle.superblock_core.specs.Superblock.{superblock_of}
-use Rattle.superblock_core.proofs.HexDigits.{taken_whole}
+use Rattle.superblock_core.proofs.Fields.{taken_whole}
 use Rattle.superblock_core.proofs.ReadsBack.{IsWritable, superblock_of-bytes, superblock_bytes-pieces, added}
 use Rattle.superblock_core.proofs.superblock.Superblock.encode.Goals as goal
 
