@@ -15,6 +15,9 @@ const REPLACEMENT: &[u8] = &[5, 0, 0, 0];
 // Fields of an entry: id 1, an id and a hint out of range, the mark of a sparse file, and names.
 const ID: &[u8] = &[1, 0, 0, 0, 1, 0, 0, 0, 0, 0, 0, 0];
 
+// All but the last byte of it.
+const CUT_ID: &[u8] = &[1, 0, 0, 0, 1, 0, 0, 0, 0, 0, 0];
+
 const NO_ID: &[u8] = &[1, 0, 0, 0, 255, 255, 255, 255, 255, 255, 255, 255];
 
 const HINT_6: &[u8] = &[4, 0, 0, 0, 6, 0, 0, 0];
@@ -26,6 +29,9 @@ const NAME_A: &[u8] = &[9, 0, 0, 0, 1, b'a'];
 const NAME_B: &[u8] = &[9, 0, 0, 0, 1, b'b'];
 
 const ONE: &[u8] = &[1, 0, 0, 0, 0, 0, 0, 0];
+
+// All but the last byte of it.
+const CUT_ONE: &[u8] = &[1, 0, 0, 0, 0, 0, 0];
 
 const NONE: &[u8] = &[255, 255, 255, 255, 255, 255, 255, 255];
 
@@ -101,7 +107,7 @@ fn faults_stand_where_they_begin(rt: HostRuntime) -> Result<(), Fail> {
         (&[UPDATE, &[18], ID, NAME_A], 5, Why::Missing(3)),
         (&[UPDATE, &[12], NO_ID], 5, Why::Range),
         (&[UPDATE, &[24], ID, NO_ID], 17, Why::Twice(1)),
-        (&[UPDATE, &[23], ID, &ID[..11]], 17, Why::Short),
+        (&[UPDATE, &[23], ID, CUT_ID], 17, Why::Short),
         (&[UPDATE, &[15], ID, &[1, 0, 0]], 17, Why::Short),
         (&[UPDATE, &[16], ID, &[2, 0, 0, 0]], 17, Why::Tag(2)),
         (&[UPDATE, &[8], HINT_6], 5, Why::Range),
@@ -115,7 +121,7 @@ fn faults_stand_where_they_begin(rt: HostRuntime) -> Result<(), Fail> {
         // Replacements.
         (&[REPLACEMENT], 4, Why::Short),
         (&[REPLACEMENT, &[0x80, 0]], 4, Why::Range),
-        (&[REPLACEMENT, &[11], &ID[..11]], 5, Why::Short),
+        (&[REPLACEMENT, &[11], CUT_ID], 5, Why::Short),
         (&[REPLACEMENT, &[16], ID, &[2, 0, 0, 0]], 17, Why::Tag(2)),
         (&[REPLACEMENT, &[24], ID, ID], 17, Why::Twice(1)),
         (
@@ -133,7 +139,7 @@ fn faults_stand_where_they_begin(rt: HostRuntime) -> Result<(), Fail> {
             Why::Range,
         ),
         // Deletions, at their part.
-        (&[DELETION, &[7], &ONE[..7]], 5, Why::Short),
+        (&[DELETION, &[7], CUT_ONE], 5, Why::Short),
         (&[DELETION, &[9], NONE, &[0]], 5, Why::Range),
         (&[DELETION, &[9], ONE, &[0]], 13, Why::Range),
         (&[DELETION, &[9], ONE, &[2]], 13, Why::Short),
