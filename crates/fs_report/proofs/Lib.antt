@@ -2,3 +2,4 @@ pub mod Fronts
 pub mod Padding
 pub mod StableSort
 pub mod LinesInOrder
+pub mod Pieces

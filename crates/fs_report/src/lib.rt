@@ -2,15 +2,19 @@
 #![tactic(auto)]
 
 mod listing;
+mod making;
 mod mem_sink;
 mod out_sink;
 mod sink;
 mod status;
+mod superblock_lines;
 #[cfg(test)]
 mod tests;
 
 pub use listing::list_text;
+pub use making::{made_fs_text, made_image_text};
 pub use mem_sink::MemSink;
 pub use out_sink::OutSink;
 pub use sink::{Sink, SinkFault, write_all};
 pub use status::Status;
+pub use superblock_lines::info_text;

@@ -1,9 +1,10 @@
 // The list of names.
-ghost use Rattle.std.specs.Prelude.{◌≡◌, None, [], ◌∷◌, ◌++◌, map, decimal, flat_map, string_bytes, IfOk, OnOk};
+ghost use Rattle.std.specs.Prelude.{◌≡◌, [], ◌∷◌, ◌++◌, map, decimal, flat_map, string_bytes, IfOk, OnOk};
+ghost use Rattle.std.specs.Option.{option_copied};
 ghost use Rattle.command_model.specs.ReportTexts.{in_twelve, list_line, list_text, listed_in_order, listed_names};
-ghost use Rattle.fs_report.specs.Lines.{listed_of};
+ghost use Rattle.fs_report.specs.Lines.{folder_of, listed_of, listed_text};
 
-use record_model::{FileEntry, Payload};
+use record_model::{FileEntry, Name, Payload};
 use std::alloc::{AllocError, Global};
 
 /// One line of the list: a name with the size and the time of its file.
@@ -64,23 +65,56 @@ fn push_text(alloc: Global, text: &mut Vec<u8>, line: &Line<'_>) -> Result<(), A
     Ok(())
 }
 
-// The texts of some lines, joined.
-fn texts_of(alloc: Global, lines: &[Line<'_>]) -> Result<Vec<u8>, AllocError>
-    ensures { IfOk result (λ text. text.items ≡ flat_map (λ line. list_line (listed_of line)) lines.now) }
+// What the names begin with that are listed: the prefix and a slash, or nothing.
+fn folder_of(alloc: Global, prefix: Option<&Name>) -> Result<Vec<u8>, AllocError>
+    ensures { IfOk result (λ folder. folder.items ≡ folder_of (option_copied prefix.entry)) }
+{
+    let mut folder = Vec::new(alloc);
+    if let Some(name) = prefix {
+        folder.extend_from_slice(name.items())?;
+        folder.push(b'/')?;
+    }
+    Ok(folder)
+}
+
+// Adds a line's text, if its name is listed.
+fn push_listed(
+    alloc: Global,
+    text: &mut Vec<u8>,
+    folder: &[u8],
+    line: &Line<'_>,
+) -> Result<(), AllocError>
+    ensures { OnOk result (text.new.items ≡ text.old.items ++ listed_text folder.now (listed_of line.now)) }
+{
+    if line.name.starts_with(folder) {
+        push_text(alloc, text, line)?;
+    }
+    Ok(())
+}
+
+// The texts of those lines that are listed, joined.
+fn texts_of(alloc: Global, folder: &[u8], lines: &[Line<'_>]) -> Result<Vec<u8>, AllocError>
+    ensures { IfOk result (λ text. text.items ≡ flat_map (λ line. listed_text folder.now (listed_of line)) lines.now) }
 {
     let mut text = Vec::new(alloc);
     for line in lines {
-        push_text(alloc, &mut text, line)?;
+        push_listed(alloc, &mut text, folder, line)?;
     }
     Ok(text)
 }
 
 /// What `list` prints of these files: for each name, in byte order, a line with the size to the right in
-/// twelve places, the time in seconds and the name, with tabs between.
-pub fn list_text(alloc: Global, files: &[FileEntry]) -> Result<Payload, AllocError>
-    ensures { IfOk result (λ text. text ≡ list_text files.now None) }
+/// twelve places, the time in seconds and the name, with tabs between. With a prefix only those names
+/// are listed that begin with it and a slash, whole.
+pub fn list_text(
+    alloc: Global,
+    files: &[FileEntry],
+    prefix: Option<&Name>,
+) -> Result<Payload, AllocError>
+    ensures { IfOk result (λ text. text ≡ list_text files.now (option_copied prefix.entry)) }
 {
     let mut lines = lines_of(alloc, files)?;
     sort_lines(&mut lines)?;
-    Ok(Payload::from_vec(texts_of(alloc, &lines)?))
+    let folder = folder_of(alloc, prefix)?;
+    Ok(Payload::from_vec(texts_of(alloc, &folder, &lines)?))
 }

@@ -59,7 +59,7 @@ fn text_of<D: ZonedDevice>(alloc: Global, dev: &mut D) -> Result<Payload, Refusa
         Err(FilesError::OtherImage) => return Err(Refusal::OtherImage),
         Err(FilesError::NoMemory) => return Err(Refusal::NoMemory),
     };
-    match list_text(alloc, files.items()) {
+    match list_text(alloc, files.items(), None) {
         Ok(text) => Ok(text),
         Err(_) => Err(Refusal::NoMemory),
     }

@@ -1,12 +1,13 @@
 use Rattle.std.proofs.Common.{ap, ◌∙◌}
 use Rattle.std.specs.Prelude.{flat_map}
-use Rattle.command_model.specs.ReportTexts.{list_line}
-use Rattle.fs_report.specs.Lines.{listed_of}
+use Rattle.std.specs.Option.{option_copied}
+use Rattle.fs_report.specs.Lines.{folder_of, listed_of, listed_text}
 use Rattle.fs_report.proofs.LinesInOrder.{text_is_list}
 use Rattle.fs_report.proofs.listing.list_text.Goals as goal
 
 pub returns : goal.returns
 returns c =
-    text_is_list c.args.files.now c.in_ok-lines.lines.items c.sort_lines.new.lines.items c.from_vec.result
+    let texts = c.in_ok-texts_of.ensures ∙ ap (λ lines. flat_map (λ line. listed_text c.deref.result.now (listed_of line)) lines) c.deref-2.ensures.value in
+    text_is_list c.args.files.now (option_copied c.args.prefix) c.in_ok-lines.lines.items c.sort_lines.new.lines.items c.from_vec.result
     c.in_ok-lines.ensures c.in_ok-sort_lines.ensures
-    (c.from_vec.ensures ∙ c.in_ok-texts_of.ensures ∙ ap (flat_map (λ line. list_line (listed_of line))) c.deref.ensures.value)
+    (c.from_vec.ensures ∙ texts ∙ ap (λ folder. flat_map (λ line. listed_text folder (listed_of line)) c.sort_lines.new.lines.items) (c.deref.ensures.value ∙ c.in_ok-folder.ensures))
