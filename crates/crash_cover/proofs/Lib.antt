@@ -1,0 +1,2 @@
+pub mod SameData
+pub mod PinnedTables
