@@ -1,2 +1,4 @@
 pub mod SameData
 pub mod PinnedTables
+pub mod RestLaws
+pub mod StepLaws

@@ -15,7 +15,7 @@ use Rattle.log_model.proofs.CrashLaws.{crashed_zone, crash_keeps_fronts}
 use Rattle.log_model.proofs.KeptTable.{kept_table_stays}
 use Rattle.crash_cover.specs.SameData.{HaveSameData, RecoversElsewhere}
 use Rattle.crash_cover.specs.Pinned.{is_durable, is_durable_point, has_durable_point, KeepsDurable, CrashKeepsDurable, PinnedTableStays, PinnedIsKept}
-use Rattle.crash_cover.proofs.SameData.{behind_first, behind_second, unset_or, data_decides_table}
+use Rattle.crash_cover.proofs.SameData.{data_decides_table}
 
 pub crash_keeps_durable : CrashKeepsDurable
 crash_keeps_durable i j h = record {
@@ -77,6 +77,11 @@ valid_kept : (unset p q : Bool) → (p ≡ true → q ≡ true) → unset || p �
 valid_kept true p q h g = refl
 valid_kept false p q h g = h g
 
+-- the same, of a point that is set
+set_kept : (unset p q : Bool) → (unset ≡ false → p ≡ true → q ≡ true) → unset || p ≡ true → unset || q ≡ true
+set_kept true p q h g = refl
+set_kept false p q h g = h refl g
+
 -- all of them
 all_weaker : {A : Type 0} (p q : A → Bool) (xs : List A) → ((x : A) → p x ≡ true → q x ≡ true) → list_all p xs ≡ true → list_all q xs ≡ true
 all_weaker p q [] h g = refl
@@ -93,41 +98,45 @@ pinned_table_stays i j es pos keeps pinned =
     pinned.unbroken
 
 module _ (changed : ℕ → Bool) (i j : Image) (same : HaveSameData changed i j) where
-  -- an extent is durable in both
-  durable_same : (x : Extent) → changed (zone_of i.geometry x.start) ≡ false → is_durable j x ≡ is_durable i x
+  -- an extent that was durable is
+  durable_still : (x : Extent) → changed (zone_of i.geometry x.start) ≡ false → is_durable i x ≡ true → is_durable j x ≡ true
   unfolding within
-  durable_same x away =
+  durable_still x away h =
       let n = zone_of i.geometry x.start in
+      let data_zone = leb-true 3 n (and_parts (nat_le 3 n) (nat_lt n i.geometry.zones) (and_parts (nat_le 3 n && nat_lt n i.geometry.zones) _ h).0).0 in
       ap (λ g. within g (zone_at j (zone_of g x.start)).kept x) same.geometry
-      ∙ behind_first (nat_le 3 n) (nat_lt n i.geometry.zones) _ _
-      (λ data_zone. ap (λ count. nat_le (offset_of i.geometry x.start + x.len) (count * i.geometry.block)) (same.kept n (leb-true 3 n data_zone) away))
+      ∙ within_more i.geometry (zone_at i n).kept (zone_at j n).kept x (same.kept n data_zone away) h
 
   -- so are all extents
-  all_durable : (xs : List Extent) → AllByRecursion (λ x. changed (zone_of i.geometry x.start) ≡ false) xs → list_all (is_durable j) xs ≡ list_all (is_durable i) xs
-  all_durable [] away = refl
-  all_durable (x ∷ xs) away = ap (λ b. b && list_all (is_durable j) xs) (durable_same x away.0) ∙ ap (λ b. is_durable i x && b) (all_durable xs away.1)
+  all_durable : (xs : List Extent) → AllByRecursion (λ x. changed (zone_of i.geometry x.start) ≡ false) xs → list_all (is_durable i) xs ≡ true → list_all (is_durable j) xs ≡ true
+  all_durable [] away h = refl
+  all_durable (x ∷ xs) away h =
+      let parts = and_parts (is_durable i x) (list_all (is_durable i) xs) h in
+      and_from (is_durable j x) (list_all (is_durable j) xs) (durable_still x away.0 parts.0) (all_durable xs away.1 parts.1)
 
-  -- a point is durable in both
-  point_durable : (start : ℕ) → changed (zone_of i.geometry start) ≡ false → is_durable_point j start ≡ is_durable_point i start
+  -- a point that was durable is
+  point_durable : (start : ℕ) → changed (zone_of i.geometry start) ≡ false → is_durable_point i start ≡ true → is_durable_point j start ≡ true
   unfolding starts_within
-  point_durable start away =
+  point_durable start away h =
       let n = zone_of i.geometry start in
+      let upper = and_parts (nat_le 3 n && nat_lt n i.geometry.zones && (offset_of i.geometry start % i.geometry.block == 0)) _ h in
+      let data_zone = leb-true 3 n (and_parts (nat_le 3 n) (nat_lt n i.geometry.zones) (and_parts (nat_le 3 n && nat_lt n i.geometry.zones) _ upper.0).0).0 in
       ap (λ g. starts_within g (zone_at j (zone_of g start)).kept start) same.geometry
-      ∙ behind_second (nat_le 3 n) (nat_lt n i.geometry.zones) (offset_of i.geometry start % i.geometry.block == 0) _ _
-      (λ data_zone. ap (λ count. nat_le (offset_of i.geometry start) (count * i.geometry.block)) (same.kept n (leb-true 3 n data_zone) away))
+      ∙ starts_more i.geometry (zone_at i n).kept (zone_at j n).kept start (same.kept n data_zone away) h
 
   -- so are all points
-  points_durable : (es : Table) → AllByRecursion (RecoversElsewhere changed i.geometry) es → list_all (has_durable_point j) es ≡ list_all (has_durable_point i) es
-  points_durable [] away = refl
-  points_durable (e ∷ es) away =
-      ap (λ b. b && list_all (has_durable_point j) es)
-      (unset_or (e.active == no_active) (is_durable_point j e.active) (is_durable_point i e.active) (λ set. point_durable e.active (away.0 (eqb-false e.active no_active set))))
-      ∙ ap (λ b. has_durable_point i e && b) (points_durable es away.1)
+  points_durable : (es : Table) → AllByRecursion (RecoversElsewhere changed i.geometry) es → list_all (has_durable_point i) es ≡ true → list_all (has_durable_point j) es ≡ true
+  points_durable [] away h = refl
+  points_durable (e ∷ es) away h =
+      let parts = and_parts (has_durable_point i e) (list_all (has_durable_point i) es) h in
+      let first = set_kept (e.active == no_active) (is_durable_point i e.active) (is_durable_point j e.active)
+      (λ set. point_durable e.active (away.0 (eqb-false e.active no_active set))) parts.0 in
+      and_from (has_durable_point j e) (list_all (has_durable_point j) es) first (points_durable es away.1 parts.1)
 
 pub pinned_is_kept : PinnedIsKept
 pinned_is_kept changed i j es same away pinned = record {
-  extents = all_durable changed i j same (all_extents es) away.extents ∙ pinned.extents;
-  points = points_durable changed i j same es away.points ∙ pinned.points;
+  extents = all_durable changed i j same (all_extents es) away.extents pinned.extents;
+  points = points_durable changed i j same es away.points pinned.points;
   sparse = pinned.sparse;
   unbroken = (data_decides_table changed i j es same away).rule ∙ pinned.unbroken;
 }

@@ -13,13 +13,13 @@ use Rattle.log_model.specs.Mounted.{is_written, all_extents, entry_with, recover
 use Rattle.crash_cover.specs.SameData.{HaveSameData, RecoversElsewhere, Avoids, ReadsAlike, DataDecidesTable}
 
 -- tests behind a first one matter only where that one passes
-pub behind_first : (b p q r : Bool) → (b ≡ true → q ≡ r) → b && p && q ≡ b && p && r
+behind_first : (b p q r : Bool) → (b ≡ true → q ≡ r) → b && p && q ≡ b && p && r
 behind_first false p q r h = refl
 behind_first true false q r h = refl
 behind_first true true q r h = h refl
 
 -- the same with two between
-pub behind_second : (b o p q r : Bool) → (b ≡ true → q ≡ r) → b && o && p && q ≡ b && o && p && r
+behind_second : (b o p q r : Bool) → (b ≡ true → q ≡ r) → b && o && p && q ≡ b && o && p && r
 behind_second false o p q r h = refl
 behind_second true false p q r h = refl
 behind_second true true false q r h = refl
@@ -51,7 +51,7 @@ point_by g a b start h =
     (λ data_zone. ap (λ bs. nat_le (offset_of g start) (length bs * g.block)) (h (leb-true 3 (zone_of g start) data_zone)))
 
 -- a test counts only where a first one fails
-pub unset_or : (unset p q : Bool) → (unset ≡ false → p ≡ q) → unset || p ≡ unset || q
+unset_or : (unset p q : Bool) → (unset ≡ false → p ≡ q) → unset || p ≡ unset || q
 unset_or true p q h = refl
 unset_or false p q h = h refl
 

@@ -1,2 +1,4 @@
 pub mod SameData
 pub mod Pinned
+pub mod AtRest
+pub mod RestSteps

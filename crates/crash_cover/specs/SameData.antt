@@ -8,11 +8,11 @@ use Rattle.log_model.specs.FileTable.{Table}
 use Rattle.log_model.specs.Frames.{no_active}
 use Rattle.log_model.specs.Mounted.{all_extents, broken_rule, recovered_entry}
 
--- the same data zones, but for those in which something changed
+-- the same data zones with no fewer durable blocks, but for zones in which something changed
 pub record HaveSameData (changed : ℕ → Bool) (i j : Image) : Type 0 where
   pub geometry : j.geometry ≡ i.geometry
   pub blocks : (n : ℕ) → 3 ≤ n → changed n ≡ false → (zone_at j n).blocks ≡ (zone_at i n).blocks
-  pub kept : (n : ℕ) → 3 ≤ n → changed n ≡ false → (zone_at j n).kept ≡ (zone_at i n).kept
+  pub kept : (n : ℕ) → 3 ≤ n → changed n ≡ false → (zone_at i n).kept ≤ (zone_at j n).kept
 
 -- a file that has a recovery point has it in a zone where nothing changed
 abbrev pub RecoversElsewhere : (ℕ → Bool) → Geometry → FileEntry → Type 0

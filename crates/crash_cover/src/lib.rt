@@ -4,3 +4,5 @@
 
 pub mod data;
 pub mod pinned;
+pub mod rest;
+pub mod steps;
