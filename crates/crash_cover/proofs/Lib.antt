@@ -2,3 +2,4 @@ pub mod SameData
 pub mod PinnedTables
 pub mod RestLaws
 pub mod StepLaws
+pub mod FoundLaws

@@ -2,3 +2,4 @@ pub mod SameData
 pub mod Pinned
 pub mod AtRest
 pub mod RestSteps
+pub mod FoundExtents

@@ -3,6 +3,7 @@
 #![tactic(auto)]
 
 pub mod data;
+pub mod found;
 pub mod pinned;
 pub mod rest;
 pub mod steps;
