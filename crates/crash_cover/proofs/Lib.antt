@@ -1,0 +1,5 @@
+pub mod SameData
+pub mod PinnedTables
+pub mod RestLaws
+pub mod StepLaws
+pub mod FoundLaws

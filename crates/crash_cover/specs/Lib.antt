@@ -1,0 +1,5 @@
+pub mod SameData
+pub mod Pinned
+pub mod AtRest
+pub mod RestSteps
+pub mod FoundExtents
