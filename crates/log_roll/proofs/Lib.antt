@@ -1,0 +1,6 @@
+pub mod Devices
+pub mod KnownFlags
+pub mod Tails
+pub mod ZoneSummaries
+pub mod ChoiceLaws
+pub mod BeginningLaws
