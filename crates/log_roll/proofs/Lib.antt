@@ -1,0 +1,2 @@
+pub mod DeviceCalls
+pub mod ZoneChanges

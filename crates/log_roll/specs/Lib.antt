@@ -1,0 +1,3 @@
+pub mod DeviceSteps
+pub mod Resets
+pub mod NewLog
