@@ -1,2 +1,3 @@
 pub mod DeviceCalls
 pub mod ZoneChanges
+pub mod FirstRecords

@@ -1,3 +1,5 @@
 pub mod DeviceSteps
 pub mod Resets
 pub mod NewLog
+pub mod FormatOrder
+pub mod FirstPayload

@@ -1,6 +1,7 @@
 //! Logs over the three metadata zones of a device: how one is begun anew, and how a device is formatted.
 #![tactic(auto)]
 
+mod order;
 mod records;
 mod resets;
 mod steps;
