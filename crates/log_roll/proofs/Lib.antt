@@ -1,3 +1,5 @@
 pub mod DeviceCalls
 pub mod ZoneChanges
 pub mod FirstRecords
+pub mod Blanking
+pub mod Formatted

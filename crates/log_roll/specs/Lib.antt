@@ -3,3 +3,4 @@ pub mod Resets
 pub mod NewLog
 pub mod FormatOrder
 pub mod FirstPayload
+pub mod Formatting
