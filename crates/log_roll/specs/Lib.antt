@@ -4,3 +4,9 @@ pub mod Rests
 pub mod Choosing
 pub mod Refusals
 pub mod Beginnings
+pub mod DeviceSteps
+pub mod Resets
+pub mod NewLog
+pub mod FormatOrder
+pub mod FirstPayload
+pub mod Formatting
