@@ -1,0 +1,11 @@
+pub mod Devices
+pub mod KnownFlags
+pub mod Tails
+pub mod ZoneSummaries
+pub mod ChoiceLaws
+pub mod BeginningLaws
+pub mod DeviceCalls
+pub mod ZoneChanges
+pub mod FirstRecords
+pub mod Blanking
+pub mod Formatted

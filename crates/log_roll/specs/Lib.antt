@@ -1,0 +1,12 @@
+pub mod Records
+pub mod Summaries
+pub mod Rests
+pub mod Choosing
+pub mod Refusals
+pub mod Beginnings
+pub mod DeviceSteps
+pub mod Resets
+pub mod NewLog
+pub mod FormatOrder
+pub mod FirstPayload
+pub mod Formatting

@@ -1,0 +1,23 @@
+//! Logs over the three metadata zones of a device: which one counts, how one is begun anew, and how a device is
+//! formatted.
+#![tactic(auto)]
+
+mod beginnings;
+mod choosing;
+mod error;
+mod first;
+mod formatting;
+mod next;
+mod order;
+mod records;
+mod resets;
+mod select;
+mod steps;
+mod summary;
+
+pub use beginnings::begins;
+pub use choosing::choose;
+pub use error::ChooseError;
+pub use formatting::format;
+pub use log_model::{Chosen, Damage, DamageWhy};
+pub use meta_log::LogError;

@@ -1,0 +1,77 @@
+// The calls of a device, each with one clause on what it leaves and passes.
+ghost use Rattle.std.specs.Prelude.{◌≡◌, ◌+◌, ◌/◌, ◌%◌, ◌<◌, ◌≤◌, false, length, IfOk, OnOk, IsErr};
+ghost use Rattle.zone_image.specs.Image.{IsCrash};
+ghost use Rattle.zone_image.specs.Changes.{blocks_in, appended, finished, emptied, synced};
+ghost use Rattle.zone_image.specs.Infos.{info_at, active_zones, infos_appended, infos_finished, infos_emptied};
+ghost use Rattle.zone_image.specs.Moments.{PassedByAppend, PassedByFinish, PassedByReset};
+ghost use Rattle.log_roll.specs.DeviceSteps.{ChangesDevice};
+
+use zone_image::ZoneInfo;
+use zoned_device::{DevFault, ZonedDevice};
+
+// The written number and the seal of a zone.
+pub(crate) fn report<D: ZonedDevice>(dev: &mut D, zone: u32) -> Result<ZoneInfo, DevFault>
+    requires is_known { D.known dev.old }
+    requires is_zone { zone < (D.geometry dev.old).zones }
+    ensures info { IfOk result (λ info. info ≡ info_at (D.infos dev.old) zone) }
+    ensures infos { D.infos dev.new ≡ D.infos dev.old }
+    ensures image { D.tells → D.image dev.new ≡ D.image dev.old }
+    ensures device { ChangesDevice D.known D.geometry D.tells D.image D.tick D.since D.faults D.failed_changes dev.old dev.new (IsErr result) (IsCrash (D.image dev.old)) }
+{
+    dev.report(zone)
+}
+
+// Makes all blocks durable.
+pub(crate) fn sync<D: ZonedDevice>(dev: &mut D) -> Result<(), DevFault>
+    requires { D.known dev.old }
+    ensures infos { D.infos dev.new ≡ D.infos dev.old }
+    ensures image { OnOk result (D.tells → D.image dev.new ≡ synced (D.image dev.old)) }
+    ensures device { ChangesDevice D.known D.geometry D.tells D.image D.tick D.since D.faults D.failed_changes dev.old dev.new (IsErr result) (IsCrash (D.image dev.old)) }
+{
+    dev.sync()
+}
+
+// Empties a zone.
+pub(crate) fn reset<D: ZonedDevice>(dev: &mut D, zone: u32) -> Result<(), DevFault>
+    requires is_known { D.known dev.old }
+    requires is_zone { zone < (D.geometry dev.old).zones }
+    ensures infos { OnOk result (D.infos dev.new ≡ infos_emptied (D.infos dev.old) zone) }
+    ensures image { OnOk result (D.tells → D.image dev.new ≡ emptied (D.image dev.old) zone) }
+    ensures device { ChangesDevice D.known D.geometry D.tells D.image D.tick D.since D.faults D.failed_changes dev.old dev.new (IsErr result) (PassedByReset (D.image dev.old) zone) }
+{
+    dev.reset(zone)
+}
+
+// Seals a zone.
+pub(crate) fn finish<D: ZonedDevice>(dev: &mut D, zone: u32) -> Result<(), DevFault>
+    requires is_known { D.known dev.old }
+    requires is_zone { zone < (D.geometry dev.old).zones }
+    ensures infos { OnOk result (D.infos dev.new ≡ infos_finished (D.infos dev.old) zone) }
+    ensures image { OnOk result (D.tells → D.image dev.new ≡ finished (D.image dev.old) zone) }
+    ensures device { ChangesDevice D.known D.geometry D.tells D.image D.tick D.since D.faults D.failed_changes dev.old dev.new (IsErr result) (PassedByFinish (D.image dev.old) zone) }
+{
+    dev.finish(zone)
+}
+
+// Writes whole blocks at the end of a zone.
+pub(crate) fn append<D: ZonedDevice>(dev: &mut D, zone: u32, bytes: &[u8]) -> Result<(), DevFault>
+    requires is_known { D.known dev.old }
+    requires is_zone { zone < (D.geometry dev.old).zones }
+    requires some { 0 < length bytes.now }
+    requires whole { length bytes.now % (D.geometry dev.old).block ≡ 0 }
+    requires unsealed { (info_at (D.infos dev.old) zone).sealed ≡ false }
+    requires room { (info_at (D.infos dev.old) zone).written + length bytes.now / (D.geometry dev.old).block
+        ≤ (D.geometry dev.old).capacity }
+    requires active { (info_at (D.infos dev.old) zone).written ≡ 0
+        → active_zones (D.infos dev.old) < (D.geometry dev.old).active_limit }
+    ensures infos { OnOk result (D.infos dev.new ≡ infos_appended (D.geometry dev.old) (D.infos dev.old) zone
+        (length bytes.now / (D.geometry dev.old).block)) }
+    ensures image { OnOk result (D.tells → D.image dev.new ≡ appended (D.image dev.old) zone (blocks_in (D.geometry dev.old) bytes.now)) }
+    ensures device { ChangesDevice D.known D.geometry D.tells D.image D.tick D.since D.faults D.failed_changes dev.old dev.new (IsErr result)
+        (PassedByAppend (D.image dev.old) zone (blocks_in (D.geometry dev.old) bytes.now)) }
+{
+    match dev.append(zone, bytes) {
+        Ok(_) => Ok(()),
+        Err(fault) => Err(fault),
+    }
+}
