@@ -30,7 +30,7 @@ pub fn make_device<D: ZonedDevice, O: Sink>(
     ensures refused { IfErr result (HasDeviceReason
         (Rose (D.faults dev.old) (D.faults dev.new))
         (Rose (O.faults out.old) (O.faults out.new) × IsBlank D.known D.geometry D.infos D.tells D.image shape.now dev.new
-            × (O.tells → AddsFront (O.written out.old) (made_image_text shape.now) (O.written out.new)))
+        × (O.tells → AddsFront (O.written out.old) (made_image_text shape.now) (O.written out.new)))
         (IsTrue (not force) × (D.tells → D.absent dev.old → ⊥))
         ((IsTrue force ⊎ (D.tells → D.absent dev.old)) × IsTrue (not (is_valid shape.now)))) }
     ensures unchanged { IfErr result (StaysUnmade (D.tells → D.image dev.new ≡ D.image dev.old)) }

@@ -20,3 +20,26 @@ pub enum MakeDeviceError {
     #[error("bad geometry")]
     BadGeometry,
 }
+
+/// Why no file system is made.
+#[derive(Clone, Copy, Debug, PartialEq, Eq, Error)]
+pub enum MakeFsError {
+    /// The device failed.
+    #[error("device fault")]
+    DeviceFault,
+    /// The file system is made, and the output failed.
+    #[error("output fault")]
+    OutputFault,
+    /// Memory is wanting.
+    #[error("out of memory")]
+    NoMemory,
+    /// No image is there.
+    #[error("not a zoned image")]
+    NotAnImage,
+    /// A metadata zone begins with a superblock's magic number.
+    #[error("file system exists in zone {zone}")]
+    FsExists {
+        /// The lowest such zone.
+        zone: u32,
+    },
+}

@@ -3,8 +3,12 @@
 
 mod device;
 mod error;
+mod file_system;
 mod settings;
+#[cfg(test)]
+mod tests;
 
 pub use device::make_device;
-pub use error::MakeDeviceError;
+pub use error::{MakeDeviceError, MakeFsError};
+pub use file_system::make_fs;
 pub use settings::{Settings, new_superblock};

@@ -1,15 +1,20 @@
 // The superblock of a new file system.
-ghost use Rattle.std.specs.Prelude.{◌≡◌, Some, if◌then◌else◌};
-ghost use Rattle.log_model.specs.Format.{identifier_of, new_superblock};
+ghost use Rattle.std.specs.Prelude.{◌≡◌, codes, if◌then◌else◌};
+ghost use Rattle.log_model.specs.Format.{identifier_of};
+ghost use Rattle.making_cmd.specs.NewFs.{superblock_for};
 
 use superblock_core::{AuxPath, COLLECT_FLAG, Superblock, VersionText};
 use zone_image::Geometry;
 
 // 2 to these powers.
 const BIT_12: u128 = 1 << 12;
+
 const BIT_62: u128 = 1 << 62;
+
 const BIT_64: u128 = 1 << 64;
+
 const BIT_76: u128 = 1 << 76;
+
 const BIT_80: u128 = 1 << 80;
 
 /// What is chosen for a new file system.
@@ -39,13 +44,22 @@ fn flags(collect: bool) -> u32
     if collect { COLLECT_FLAG } else { 0 }
 }
 
+// This project's version text.
+fn version_text() -> VersionText
+    ensures { result ≡ codes "profile-2" }
+{
+    match VersionText::read("profile-2") {
+        Some(text) => text,
+        None => unreachable!(),
+    }
+}
+
 /// The superblock of a new file system on a device of this shape: its sequence is 1, its identifier is made of the
 /// random bits, and its version text is this project's.
-pub fn new_superblock(geometry: &Geometry, settings: &Settings, random: u128) -> Option<Superblock>
-    ensures { result ≡ Some (new_superblock geometry.now random settings.now.aux_path settings.now.finish_threshold settings.now.collect) }
+pub fn new_superblock(geometry: &Geometry, settings: &Settings, random: u128) -> Superblock
+    ensures { result ≡ superblock_for settings.now random geometry.now }
 {
-    let version_text = VersionText::read("profile-2")?;
-    Some(Superblock {
+    Superblock {
         id: identifier(random),
         sequence: 1,
         flags: flags(settings.collect),
@@ -54,6 +68,6 @@ pub fn new_superblock(geometry: &Geometry, settings: &Settings, random: u128) ->
         zones: geometry.zones,
         finish_threshold: settings.finish_threshold,
         aux_path: settings.aux_path,
-        version_text,
-    })
+        version_text: version_text(),
+    }
 }
