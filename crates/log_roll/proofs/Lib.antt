@@ -1,4 +1,3 @@
-pub mod Devices
 pub mod KnownFlags
 pub mod Tails
 pub mod ZoneSummaries

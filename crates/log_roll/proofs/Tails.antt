@@ -57,11 +57,6 @@ or_grouped : (a b c : Bool) → (a || (b || c)) ≡ ((a || b) || c)
 or_grouped true b c = refl
 or_grouped false b c = refl
 
--- with nothing behind
-or_none : (a : Bool) → (a || false) ≡ a
-or_none true = refl
-or_none false = refl
-
 -- either way round
 or_turned : (a b : Bool) → (a || b) ≡ (b || a)
 or_turned true true = refl
@@ -80,18 +75,6 @@ more_read whole rest behind seen left block bytes read is =
       has_end = read.has_end ∙ (ap (λ (s : Scan). seen || has_end s.payloads) is ∙ or_grouped seen (bytes_eq bytes (u32 4)) (has_end behind.payloads));
       room = omega arith;
     }
-
--- a tail of these
-abbrev tail : Bool → LogEnd → LogTail
-tail seen end = record { has_end = seen; end = end }
-
--- all was read
-pub all_read : (whole rest : Scan) (seen : Bool) (left : ℕ) (end : LogEnd) → IsReadTo whole seen rest left → rest.payloads ≡ [] → log_end_of rest.end ≡ end
-    → tail seen end ≡ tail_of whole
-all_read whole rest seen left end read none is =
-    let seen_is : seen ≡ has_end whole.payloads = sym (read.has_end ∙ (ap (λ ps. seen || has_end ps) none ∙ or_none seen)) in
-    let end_is : end ≡ log_end_of whole.end = sym (ap log_end_of read.end ∙ is) in
-    ap (λ b. tail b end) seen_is ∙ ap (tail (has_end whole.payloads)) end_is
 
 -- a clean end is one
 clean_is : (e : ScanEnd) → is_clean_end (log_end_of e) ≡ is_clean e

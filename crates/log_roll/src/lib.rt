@@ -4,6 +4,8 @@
 
 mod beginnings;
 mod choosing;
+#[cfg(test)]
+mod choosing_tests;
 mod error;
 mod first;
 mod formatting;
