@@ -1,0 +1,2 @@
+pub mod ZoneTests
+pub mod ZoneTableState

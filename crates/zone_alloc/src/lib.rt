@@ -1,0 +1,8 @@
+//! The zones of a file system: which one a writer gets, which one is collected, and what space is left.
+#![tactic(auto)]
+
+mod walks;
+mod zone;
+mod zone_test;
+
+pub use fs_model::{Before, Choice, Owner, Plan, Space, ZoneState};
