@@ -2,6 +2,8 @@
 #![tactic(auto)]
 
 mod walks;
+mod choosing;
+mod space;
 mod zone;
 mod zone_test;
 
