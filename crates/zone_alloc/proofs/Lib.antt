@@ -1,1 +1,3 @@
 pub mod ZoneWalks
+pub mod SpaceLaws
+pub mod PlanLaws

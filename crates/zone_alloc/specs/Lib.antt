@@ -1,2 +1,3 @@
 pub mod ZoneTests
 pub mod ZoneTableState
+pub mod Destinations

@@ -35,20 +35,20 @@ abbrev pub with_state : ZoneTableState → ℕ → (ZoneState → ZoneState) →
 with_state t zone f = record t { zones = change_at zone f t.zones }
 
 -- the live blocks of all zones
-abbrev pub live_blocks : ZoneTableState → ℕ
-live_blocks t = sum_by (λ z. z.live) t.zones
+abbrev pub live_blocks : List ZoneState → ℕ
+live_blocks zs = sum_by (λ z. z.live) zs
 
 -- the live bytes of all zones
-abbrev pub live_bytes : ZoneTableState → ℕ
-live_bytes t = sum_by (λ z. z.live_bytes) t.zones
+abbrev pub live_bytes : List ZoneState → ℕ
+live_bytes zs = sum_by (λ z. z.live_bytes) zs
 
--- a table of a device: its zones are as a device may tell them, and their live blocks and bytes have sums of 64 bits
-pub record IsZoneTable (t : ZoneTableState) : Type 0 where
-  pub valid : IsTrue (is_valid t.geometry)
-  pub count : length t.zones ≡ t.geometry.zones
-  pub each : All (λ z. IsPossibleInfo t.geometry z.info) t.zones
-  pub blocks_fit : live_blocks t < 2 ^ 64
-  pub bytes_fit : live_bytes t < 2 ^ 64
+-- the zones of a device: they are as a device may tell them, and the sums of their live blocks and bytes have 64 bits
+pub record IsZoneTable (g : Geometry) (zs : List ZoneState) : Type 0 where
+  pub valid : IsTrue (is_valid g)
+  pub count : length zs ≡ g.zones
+  pub each : All (λ z. IsPossibleInfo g z.info) zs
+  pub blocks_fit : live_blocks zs < 2 ^ 64
+  pub bytes_fit : live_bytes zs < 2 ^ 64
 
 -- ---- what is done to a zone
 

@@ -67,7 +67,10 @@ fn finished_zone(capacity: u32, allowed: bool, zones: &[ZoneState]) -> Option<Ch
     if !allowed {
         return None;
     }
-    match (least(zones, ZoneTest::IdleActive, ZoneKey::Room { capacity }), first(zones, ZoneTest::Empty)) {
+    match (
+        least(zones, ZoneTest::IdleActive, ZoneKey::Room { capacity }),
+        first(zones, ZoneTest::Empty),
+    ) {
         (Some((finish, _)), Some((zone, _))) => Some(Choice::FinishFresh { finish, zone }),
         _ => None,
     }
@@ -93,7 +96,12 @@ fn take_zone(found: Option<(u32, ZoneState)>) -> Option<Choice>
 }
 
 // The zone that the first of the rules names, if one does.
-fn choice_among(geometry: &Geometry, collect: bool, zones: &[ZoneState], hint: u32) -> Option<Choice>
+fn choice_among(
+    geometry: &Geometry,
+    collect: bool,
+    zones: &[ZoneState],
+    hint: u32,
+) -> Option<Choice>
     requires metadata { 3 ≤ length zones.now }
     requires numbers { length zones.now < 2 ^ 32 }
     ensures { result ≡ choice_among geometry.now.capacity geometry.now.active_limit collect hint (data_zones zones.now) }
@@ -117,7 +125,12 @@ fn choice_among(geometry: &Geometry, collect: bool, zones: &[ZoneState], hint: u
 
 /// The zone that a writer with no zone gets for a file of this hint.
 #[tactic(auto, unfolding(fs_model::specs::ZonePolicy::choose_zone))]
-pub(crate) fn chosen_zone(geometry: &Geometry, collect: bool, zones: &[ZoneState], hint: u32) -> Choice
+pub(crate) fn chosen_zone(
+    geometry: &Geometry,
+    collect: bool,
+    zones: &[ZoneState],
+    hint: u32,
+) -> Choice
     requires metadata { 3 ≤ length zones.now }
     requires numbers { length zones.now < 2 ^ 32 }
     ensures { result ≡ choose_zone geometry.now collect zones.now hint }

@@ -1,9 +1,10 @@
 //! The zones of a file system: which one a writer gets, which one is collected, and what space is left.
 #![tactic(auto)]
 
-mod walks;
 mod choosing;
+mod collecting;
 mod space;
+mod walks;
 mod zone;
 mod zone_test;
 

@@ -1,9 +1,10 @@
 // What the policy asks of one zone.
-ghost use Rattle.std.specs.Prelude.{◌≡◌, ◌-◌, ◌<◌, if◌then◌else◌};
-ghost use Rattle.fs_model.specs.ZonePolicy.{is_idle, is_collectors, has_blocks, is_open, is_empty, is_idle_active, room_of, takes_a_token, difference};
+ghost use Rattle.std.specs.Prelude.{◌≡◌, ◌*◌, ◌<◌, ◌≤◌};
+ghost use Rattle.fs_model.specs.ZonePolicy.{is_idle, is_collectors, has_blocks, is_open, is_empty, is_idle_active, room_of, takes_a_token, difference, unused_bytes};
 ghost use Rattle.fs_model.specs.VictimPolicy.{garbage, is_resettable};
 
 use fs_model::{Owner, ZoneState};
+use zone_image::Geometry;
 
 /// Nobody holds the zone.
 pub(crate) fn is_idle(zone: &ZoneState) -> bool
@@ -63,7 +64,8 @@ pub(crate) fn is_resettable(zone: &ZoneState) -> bool
 
 /// The blocks that may still be written.
 pub(crate) fn room_of(capacity: u32, zone: &ZoneState) -> u32
-    ensures { result ≡ room_of capacity zone.now }
+    ensures exact { result ≡ room_of capacity zone.now }
+    ensures small { result ≤ capacity }
 {
     if zone.info.sealed {
         0
@@ -97,12 +99,13 @@ pub(crate) fn garbage(capacity: u32, zone: &ZoneState) -> u32
     100 - live.min(100) as u32
 }
 
-/// The bytes of a sealed zone that aren't live, of so many.
-pub(crate) fn unused_bytes(bytes: u64, zone: &ZoneState) -> u64
-    ensures { result ≡ (if zone.now.info.sealed then bytes - zone.now.live_bytes else 0) }
+/// The bytes of a sealed zone that aren't live.
+pub(crate) fn unused_bytes(geometry: &Geometry, zone: &ZoneState) -> u64
+    ensures exact { result ≡ unused_bytes geometry.now (0, zone.now) }
+    ensures small { result ≤ geometry.now.capacity * geometry.now.block }
 {
     if zone.info.sealed {
-        bytes.saturating_sub(zone.live_bytes)
+        (u64::from(geometry.capacity) * u64::from(geometry.block)).saturating_sub(zone.live_bytes)
     } else {
         0
     }
