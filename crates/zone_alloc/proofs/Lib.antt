@@ -1,3 +1,4 @@
 pub mod ZoneWalks
 pub mod SpaceLaws
 pub mod PlanLaws
+pub mod TableLaws

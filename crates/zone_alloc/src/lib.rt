@@ -3,9 +3,11 @@
 
 mod choosing;
 mod collecting;
+mod extent;
 mod space;
 mod walks;
 mod zone;
+mod zone_table;
 mod zone_test;
 
-pub use fs_model::{Before, Choice, Owner, Plan, Space, ZoneState};
+pub use zone_table::ZoneTable;
