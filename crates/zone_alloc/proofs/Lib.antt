@@ -2,3 +2,4 @@ pub mod ZoneWalks
 pub mod SpaceLaws
 pub mod PlanLaws
 pub mod TableLaws
+pub mod NamedLaws

@@ -14,7 +14,7 @@ use Rattle.fs_model.specs.declared.zones.ZoneState.{ZoneState}
 use Rattle.zone_alloc.specs.ZoneTableState.{ZoneTableState, no_state, unused_state, state_at, with_state, live_blocks, live_bytes, IsZoneTable}
 
 -- nothing is live in zones as a device tells them
-none_live : (f : ZoneState → ℕ) → ((info : ZoneInfo) → f (unused_state info) ≡ 0) → (infos : List ZoneInfo) → sum_by f (map unused_state infos) ≡ 0
+pub none_live : (f : ZoneState → ℕ) → ((info : ZoneInfo) → f (unused_state info) ≡ 0) → (infos : List ZoneInfo) → sum_by f (map unused_state infos) ≡ 0
 none_live f none [] = refl
 none_live f none (info ∷ infos) = sum_by-cons f (unused_state info) (map unused_state infos) ∙ ap (λ (n : ℕ). n + sum_by f (map unused_state infos)) (none info) ∙ zero-add (sum_by f (map unused_state infos)) ∙ none_live f none infos
 

@@ -1,7 +1,7 @@
 // Which zone is collected, and where its live blocks go.
 ghost use Rattle.std.specs.Prelude.{◌≡◌, ◌^◌, ◌<◌, ◌≤◌, filter, length};
 ghost use Rattle.fs_model.specs.ZonePolicy.{data_zones, least, lesser};
-ghost use Rattle.fs_model.specs.VictimPolicy.{threshold, is_candidate, in_own, finish_own, release_own, room_lost, plan_to, victim_among, victim};
+ghost use Rattle.fs_model.specs.VictimPolicy.{threshold, is_candidate, in_own, finish_own, release_own, room_lost, plan_to, victim_among, victim, resettable};
 ghost use Rattle.zone_alloc.specs.ZoneTableState.{IsZoneTable};
 ghost use Rattle.zone_alloc.specs.Destinations.{room_bound, place_of, live_percent, is_eligible};
 
@@ -272,10 +272,22 @@ fn victim_among(geometry: &Geometry, percent: u32, zones: &[ZoneState]) -> Optio
     }
 }
 
-// The garbage that a victim has to have more of, in percent.
-fn threshold(percent: u32) -> u32
+/// The garbage that a victim has to have more of, in percent.
+pub(crate) fn threshold(percent: u32) -> u32
     requires { percent ≤ 20 }
     ensures { result ≡ threshold percent }
 {
     100 - 3 * (COLLECTED_TO - percent)
+}
+
+/// The lowest data zone that may be reset.
+#[tactic(auto, unfolding(fs_model::specs::VictimPolicy::resettable))]
+pub(crate) fn resettable_zone(zones: &[ZoneState]) -> Option<u32>
+    requires { length zones.now < 2 ^ 32 }
+    ensures { result ≡ resettable zones.now }
+{
+    match first(zones, ZoneTest::Resettable) {
+        Some((zone, _)) => Some(zone),
+        None => None,
+    }
 }

@@ -5,6 +5,8 @@ mod choosing;
 mod collecting;
 mod extent;
 mod space;
+#[cfg(test)]
+mod tests;
 mod walks;
 mod zone;
 mod zone_table;

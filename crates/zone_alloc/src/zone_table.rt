@@ -5,13 +5,12 @@ ghost use Rattle.fs_model.specs.FsState.{touched};
 ghost use Rattle.fs_model.specs.ZonePolicy.{is_idle, is_open, choose_zone, space};
 ghost use Rattle.fs_model.specs.VictimPolicy.{victim, resettable};
 ghost use Rattle.zone_alloc.specs.ZoneTableState.{IsZoneTable, unused_state, state_at};
+ghost use Rattle.zone_alloc.specs.NamedZones.{NamesIdleZones, IsLowestResettable};
 
 use crate::choosing::chosen_zone;
-use crate::collecting::next_victim;
+use crate::collecting::{next_victim, resettable_zone};
 use crate::extent::{touched, zone_of};
 use crate::space::space_of;
-use crate::walks::first;
-use crate::zone_test::ZoneTest;
 use fs_model::{Choice, Owner, Plan, Space, ZoneState};
 use record_model::Extent;
 use std::alloc::{AllocError, Global};
@@ -81,7 +80,8 @@ impl ZoneTable {
     /// is a little longer, an empty one while a token is free, an active one of the same lifetime, an empty one in
     /// place of an active one, and any active one. It is `Busy` where no token is free, and `NoSpace` otherwise.
     pub fn choose_zone(&self, hint: u32) -> Choice
-        ensures { result ≡ choose_zone self.now.geometry self.now.collect self.now.zones hint }
+        ensures exact { result ≡ choose_zone self.now.geometry self.now.collect self.now.zones hint }
+        ensures idle { NamesIdleZones self.now result }
     {
         chosen_zone(&self.geometry, self.collect, &self.zones, hint)
     }
@@ -95,14 +95,11 @@ impl ZoneTable {
     }
 
     /// The lowest data zone that nobody holds, with a block or a seal and nothing live.
-    #[tactic(auto, unfolding(fs_model::specs::VictimPolicy::resettable))]
     pub fn resettable(&self) -> Option<u32>
-        ensures { result ≡ resettable self.now.zones }
+        ensures exact { result ≡ resettable self.now.zones }
+        ensures lowest { IsLowestResettable self.now result }
     {
-        match first(&self.zones, ZoneTest::Resettable) {
-            Some((zone, _)) => Some(zone),
-            None => None,
-        }
+        resettable_zone(&self.zones)
     }
 
     /// The free blocks of data zones, the bytes of live extents, the bytes of sealed data zones that aren't live, and
