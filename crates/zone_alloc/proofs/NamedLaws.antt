@@ -1,6 +1,6 @@
 -- Which zones the policy's walks name.
-use Rattle.std.proofs.Common.{◌≡◌, ℕ, zero, suc, ◌+◌, ◌-◌, ◌<◌, ◌≤◌, Bool, true, false, ◌&&◌, cond, List, [], ◌∷◌, length, drop, get_or, filter, Option, Some, None, nat_lt, refl, sym, ◌∙◌, ap, subst, arith, zero-add}
-use Rattle.std.specs.Prelude.{IsTrue, IfSome, ◌==◌, option_map}
+use Rattle.std.proofs.Common.{◌≡◌, ℕ, zero, suc, ◌+◌, ◌-◌, ◌<◌, ◌≤◌, Bool, true, false, ◌&&◌, cond, List, [], ◌∷◌, length, get_or, filter, Option, Some, None, nat_lt, refl, sym, ◌∙◌, ap, subst, arith, zero-add}
+use Rattle.std.specs.Prelude.{IfSome, ◌==◌, option_map}
 use Rattle.std.specs.List.{All, enumerate_from}
 use Rattle.std.proofs.lemmas.List.{length-drop, get_or-drop, get_or_default}
 use Rattle.std.proofs.lemmas.List.Elements.{All-head, All-tail, All-filter, filter_passes}
@@ -10,7 +10,7 @@ use Rattle.fs_model.specs.declared.zones.ZoneState.{ZoneState}
 use Rattle.fs_model.specs.declared.policy.Choice.{Choice}
 use Rattle.fs_model.specs.ZonePolicy.{Numbered, data_zones, first, least, lesser, or_else, is_empty, is_idle_active, zone_difference, room_of, take_zone, fresh_zone, finish_for, choice_among, choice_or, choose_zone, token_is_free, empty_is_allowed}
 use Rattle.fs_model.specs.VictimPolicy.{is_resettable, resettable}
-use Rattle.zone_alloc.specs.ZoneTableState.{ZoneTableState, no_state, state_at}
+use Rattle.zone_alloc.specs.ZoneTableState.{ZoneTableState, no_state}
 use Rattle.zone_alloc.specs.NamedZones.{IsNamed, NamesIdleZones, IsLowestResettable}
 use Rattle.zone_alloc.proofs.ZoneWalks.{zones_from, zone_here, filter-passes, filter-fails, filter-end}
 

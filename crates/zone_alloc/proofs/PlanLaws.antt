@@ -1,10 +1,10 @@
 -- A candidate has a plan where its live blocks have a destination that gains a block.
-use Rattle.std.proofs.Common.{◌≡◌, ℕ, ◌+◌, ◌<◌, ◌≤◌, max, Bool, true, false, ◌&&◌, cond, List, [], ◌∷◌, filter, Option, Some, None, is_some, nat_lt, nat_le, refl, sym, ◌∙◌, ap, arith}
+use Rattle.std.proofs.Common.{◌≡◌, ℕ, ◌+◌, ◌≤◌, max, Bool, true, false, ◌&&◌, cond, List, [], ◌∷◌, filter, Option, Some, None, is_some, nat_lt, nat_le, refl, sym, ◌∙◌, ap, arith}
 use Rattle.std.proofs.lemmas.Bool.Decides.{nat_tests}
 use Rattle.std.proofs.lemmas.List.Elements.{filter_agree}
 use Rattle.fs_model.specs.declared.policy.Before.{Before}
 use Rattle.fs_model.specs.declared.policy.Plan.{Plan}
-use Rattle.fs_model.specs.ZonePolicy.{Numbered, is_empty, is_idle_active, room_of, tokens_taken, first, least, or_else}
+use Rattle.fs_model.specs.ZonePolicy.{Numbered, is_empty, is_idle_active, room_of, first, least, or_else}
 use Rattle.fs_model.specs.VictimPolicy.{in_own, in_zone, finish_own, release_own, room_lost, destination, own_zone, plan_to, plan_for, plan_for_picked, is_candidate, threshold, victim_among}
 use Rattle.zone_alloc.specs.declared.collecting.Destinations.{Destinations}
 use Rattle.zone_alloc.specs.Destinations.{live_percent, is_eligible, room_bound, allowed_zone, may_open, destinations_of, near_destination, gains_at, gains, place_of}

@@ -1,10 +1,8 @@
 -- The invariant of a table, and one zone changed.
-use Rattle.std.proofs.Common.{◌≡◌, ℕ, zero, suc, ◌+◌, ◌*◌, ◌/◌, ◌%◌, ◌^◌, ◌<◌, ◌≤◌, List, [], ◌∷◌, length, map, set, get_or, sum_by, refl, sym, ◌∙◌, ap, arith, zero-add}
-use Rattle.std.specs.List.{All}
-use Rattle.std.specs.Prelude.{IsTrue}
+use Rattle.std.proofs.Common.{◌≡◌, ℕ, zero, suc, ◌+◌, ◌^◌, ◌<◌, Bool, List, [], ◌∷◌, length, map, set, get_or, sum_by, refl, sym, ◌∙◌, ap, arith, zero-add}
 use Rattle.std.proofs.lemmas.List.{length-map}
 use Rattle.std.proofs.lemmas.List.Elements.{All-map, All-set}
-use Rattle.std.proofs.lemmas.List.Sums.{sum_by-cons, sum_by-set, get_or-le-sum_by}
+use Rattle.std.proofs.lemmas.List.Sums.{sum_by-cons, sum_by-set}
 use Rattle.std.proofs.Math.ListN.{length-set}
 use Rattle.zone_image.specs.declared.Geometry.{Geometry}
 use Rattle.zone_image.specs.declared.ZoneInfo.{ZoneInfo}
@@ -49,3 +47,8 @@ set_table g zs zone state is in_range possible blocks bytes = record {
   blocks_fit = omega (arith, sum_by-set (λ (z : ZoneState). z.live) zs zone state no_state in_range, blocks);
   bytes_fit = omega (arith, sum_by-set (λ (z : ZoneState). z.live_bytes) zs zone state no_state in_range, bytes);
 }
+
+-- a table as a device tells it has nothing live
+pub none_live_in : (f : ZoneState → ℕ) → ((info : ZoneInfo) → f (unused_state info) ≡ 0) → (g : Geometry) (collect : Bool) (infos : List ZoneInfo) (t : ZoneTableState)
+    → t ≡ record { geometry = g; collect = collect; zones = map unused_state infos } → sum_by f t.zones ≡ 0
+none_live_in f none g collect infos t made = ap (λ (s : ZoneTableState). sum_by f s.zones) made ∙ none_live f none infos

@@ -1,5 +1,5 @@
 -- The zones that an allocator names: data zones that are there, and of the kind that is meant.
-use Rattle.std.specs.Prelude.{◌≡◌, ℕ, ◌<◌, ◌≤◌, Bool, ◌&&◌, Option, MatchOption, IsTrue, IfSome}
+use Rattle.std.specs.Prelude.{ℕ, ◌<◌, ◌≤◌, Bool, Option, MatchOption, IsTrue}
 use Rattle.fs_model.specs.declared.policy.Choice.{Choice}
 use Rattle.fs_model.specs.declared.policy.Choice.TheVariants.{Take, Fresh, FinishFresh, Busy, NoSpace}
 use Rattle.fs_model.specs.ZonePolicy.{Numbered, is_empty, is_idle_active}

@@ -1,6 +1,6 @@
 use Rattle.std.proofs.Common.{◌≡◌, ℕ, ◌+◌, ◌-◌, ◌<◌, max, length, cond, sym, ◌∙◌, ap, arith}
 use Rattle.zone_alloc.specs.Destinations.{room_bound}
-use Rattle.fs_model.specs.ZonePolicy.{is_idle_active, room_of}
+use Rattle.fs_model.specs.ZonePolicy.{room_of}
 use Rattle.zone_alloc.proofs.ZoneWalks.{zones_from, zone_here, zones_from-step, zones_from-end}
 use Rattle.zone_alloc.proofs.collecting.room_bound.Goals as goal
 

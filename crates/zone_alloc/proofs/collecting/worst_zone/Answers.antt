@@ -1,5 +1,5 @@
-use Rattle.std.proofs.Common.{◌≡◌, ℕ, ◌+◌, ◌-◌, ◌<◌, Some, length, filter, sym, ◌∙◌, ap, arith}
-use Rattle.fs_model.specs.ZonePolicy.{Numbered, least, lesser}
+use Rattle.std.proofs.Common.{◌≡◌, ℕ, ◌+◌, ◌-◌, ◌<◌, length, filter, sym, ◌∙◌, ap, arith}
+use Rattle.fs_model.specs.ZonePolicy.{least, lesser}
 use Rattle.zone_alloc.specs.Destinations.{live_percent, is_eligible}
 use Rattle.zone_alloc.proofs.ZoneWalks.{zones_from, zone_here, filter-passes, filter-fails, filter-end}
 use Rattle.zone_alloc.proofs.collecting.worst_zone.Goals as goal

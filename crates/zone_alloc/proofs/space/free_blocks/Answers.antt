@@ -1,4 +1,4 @@
-use Rattle.std.proofs.Common.{◌≡◌, ℕ, ◌≤◌, ◌*◌, length, ap, arith}
+use Rattle.std.proofs.Common.{◌≡◌, ℕ, ◌*◌, length, ap, arith}
 use Rattle.fs_model.specs.ZonePolicy.{Numbered, room_of}
 use Rattle.zone_alloc.proofs.ZoneWalks.{sum-step, sum-end}
 use Rattle.zone_alloc.proofs.space.free_blocks.Goals as goal

@@ -1,5 +1,5 @@
-use Rattle.std.proofs.Common.{◌≡◌, ℕ, ◌+◌, ◌-◌, ◌<◌, ◌≤◌, length, filter, sym, ◌∙◌, ap, subst, arith}
-use Rattle.fs_model.specs.ZonePolicy.{Numbered, least, lesser, data_zones}
+use Rattle.std.proofs.Common.{◌≡◌, ℕ, ◌+◌, ◌-◌, ◌<◌, length, filter, sym, ◌∙◌, ap, arith}
+use Rattle.fs_model.specs.ZonePolicy.{least, lesser}
 use Rattle.zone_alloc.specs.ZoneTests.{is_wanted, numbered_key}
 use Rattle.zone_alloc.proofs.ZoneWalks.{zones_from, zone_here, filter-passes, filter-fails, filter-end}
 use Rattle.zone_alloc.proofs.walks.least.Goals as goal
