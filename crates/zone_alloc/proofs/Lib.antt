@@ -1,0 +1,5 @@
+pub mod ZoneWalks
+pub mod SpaceLaws
+pub mod PlanLaws
+pub mod TableLaws
+pub mod NamedLaws

@@ -1,0 +1,8 @@
+use Rattle.std.proofs.Common.{◌≡◌, filter}
+use Rattle.fs_model.specs.ZonePolicy.{data_zones}
+use Rattle.zone_alloc.specs.ZoneTests.{is_wanted}
+use Rattle.zone_alloc.proofs.ZoneWalks.{zones_from}
+use Rattle.zone_alloc.proofs.walks.first.Given as goal
+
+abbrev pub invariant-loop-i : goal.invariant-loop-i
+invariant-loop-i l = filter (is_wanted l.test) (zones_from l.i l.zones) ≡ filter (is_wanted l.test) (data_zones l.zones)

@@ -1,0 +1,4 @@
+pub mod ZoneTests
+pub mod ZoneTableState
+pub mod Destinations
+pub mod NamedZones
