@@ -3,3 +3,4 @@ pub mod PinnedTables
 pub mod RestLaws
 pub mod StepLaws
 pub mod FoundLaws
+pub mod RecoveryLaws

@@ -57,7 +57,7 @@ starts_more g few many start h le =
     and_from front (nat_le (offset_of g start) (many * g.block)) parts.0 (more_blocks (offset_of g start) g.block few many h parts.1)
 
 -- an extent in durable blocks is written where these are kept
-kept_written : (i j : Image) (x : Extent) → KeepsDurable i j → is_durable i x ≡ true → is_written j x ≡ true
+pub kept_written : (i j : Image) (x : Extent) → KeepsDurable i j → is_durable i x ≡ true → is_written j x ≡ true
 unfolding within
 kept_written i j x keeps h =
     let n = zone_of i.geometry x.start in
@@ -65,7 +65,7 @@ kept_written i j x keeps h =
     ∙ within_more i.geometry (zone_at i n).kept (length (zone_at j n).blocks) x (keeps.enough n) h
 
 -- a point in durable blocks is one where these are kept
-kept_point : (i j : Image) (start : ℕ) → KeepsDurable i j → is_durable_point i start ≡ true → is_recovery_point j start ≡ true
+pub kept_point : (i j : Image) (start : ℕ) → KeepsDurable i j → is_durable_point i start ≡ true → is_recovery_point j start ≡ true
 unfolding starts_within
 kept_point i j start keeps h =
     let n = zone_of i.geometry start in

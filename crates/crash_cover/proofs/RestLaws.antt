@@ -1,10 +1,11 @@
 -- What an image at rest mounts, after a crash too.
 use Rattle.std.specs.Prelude.{◌≡◌, ◌≢◌, ◌⊎◌, ℕ, zero, suc, ◌<◌, ◌≤◌, Bool, false, List, [], ◌∷◌, length, take, None, refl}
 use Rattle.std.proofs.Common.{◌∙◌, ap, sym, subst, ⊎_elim, inl, inr, arith}
-use Rattle.std.specs.List.{AllByRecursion}
+use Rattle.std.specs.List.{All, AllByRecursion}
+use Rattle.std.proofs.lemmas.List.Elements.{All-head, All-tail}
 use Rattle.zone_image.specs.Image.{Zone, Image, IsCrash, zone_at, zone_in, is_valid}
 use Rattle.zone_image.specs.Changes.{change_at, zone_appended, appended}
-use Rattle.zone_image.specs.Infos.{info_of, IsValidImage}
+use Rattle.zone_image.specs.Infos.{info_of, IsZone, IsValidImage}
 use Rattle.zone_image.proofs.InfoLaws.{some_block}
 use Rattle.std.proofs.lemmas.List.{length-map}
 use Rattle.record_model.specs.declared.types.Extent.{Extent}
@@ -111,3 +112,12 @@ record_moment_mounts i j log greatest payload r es next rest adds pinned passed 
     (λ before. inl (before (left_unbroken i j log.zone (take passed.count blocks) es pos zone rest.pinned passed.crash)))
     (λ after. inr (after (left_unbroken i j log.zone (take passed.count blocks) next pos zone pinned passed.crash)))
     (record_crash_mounts i j log greatest payload r es next rest.table adds.clean adds.goes_on adds.fits adds.reads adds.after rest.metadata enough passed)
+
+-- no zone has more durable blocks than blocks
+pub kept_within : (i : Image) (n : ℕ) → IsValidImage i → (zone_at i n).kept ≤ length (zone_at i n).blocks
+kept_within i n is = each i.zones n is.zones
+  where
+    each : (zs : List Zone) (m : ℕ) → All (IsZone i.geometry) zs → (zone_in zs m).kept ≤ length (zone_in zs m).blocks
+    each [] m all = omega arith
+    each (z ∷ zs) zero all = (All-head (IsZone i.geometry) z zs all).kept
+    each (z ∷ zs) (suc m) all = each zs m (All-tail (IsZone i.geometry) z zs all)

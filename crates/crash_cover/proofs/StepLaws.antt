@@ -2,12 +2,10 @@
 use Rattle.std.specs.Prelude.{◌≡◌, ◌≢◌, ℕ, zero, suc, ◌+◌, ◌<◌, ◌≤◌, Bool, true, false, List, [], ◌∷◌, ◌++◌, length, map, drop, Ok, ◌==◌, refl}
 use Rattle.std.proofs.Common.{◌∙◌, ap, sym, subst, ⊎_elim, arith}
 use Rattle.std.proofs.lemmas.Bool.{eqb-false, or_parts}
-use Rattle.std.specs.List.{All}
-use Rattle.std.proofs.lemmas.List.Elements.{All-head, All-tail}
 use Rattle.std.specs.Str.{bytes_eq}
 use Rattle.zone_image.specs.Image.{Zone, Image, zone_at, zone_in, no_zone}
 use Rattle.zone_image.specs.Changes.{change_at, zone_appended, zone_finished, zone_synced, appended, finished, emptied, synced}
-use Rattle.zone_image.specs.Infos.{IsZone, IsValidImage}
+use Rattle.zone_image.specs.Infos.{IsValidImage}
 use Rattle.zone_image.proofs.InfoLaws.{valid_synced}
 use Rattle.record_model.specs.Numbers.{u32}
 use Rattle.log_model.specs.LogScan.{ScanEnd, record_blocks, has_end}
@@ -25,7 +23,7 @@ use Rattle.crash_cover.specs.SameData.{HaveSameData}
 use Rattle.crash_cover.specs.AtRest.{IsAtRest, with_record}
 use Rattle.crash_cover.specs.RestSteps.{KeepsLog, RestIsKept, SyncKeepsRest, FinishKeepsRest, ResetKeepsRest, RecordIsAtRest, FinishMomentMounts, ResetMomentMounts}
 use Rattle.crash_cover.proofs.PinnedTables.{pinned_is_kept}
-use Rattle.crash_cover.proofs.RestLaws.{same_selected, crash_at_rest_mounts, elsewhere, avoids_nothing, appended_data, three_zones}
+use Rattle.crash_cover.proofs.RestLaws.{same_selected, crash_at_rest_mounts, elsewhere, avoids_nothing, appended_data, three_zones, kept_within}
 
 pub rest_is_kept : RestIsKept
 rest_is_kept changed i j log greatest es rest valid keeps same away = record {
@@ -40,15 +38,6 @@ zone_of_synced : (zs : List Zone) (n : ℕ) → zone_in (map zone_synced zs) n �
 zone_of_synced [] n = refl
 zone_of_synced (z ∷ zs) zero = refl
 zone_of_synced (z ∷ zs) (suc n) = zone_of_synced zs n
-
--- no zone has more durable blocks than blocks
-kept_within : (i : Image) (n : ℕ) → IsValidImage i → (zone_at i n).kept ≤ length (zone_at i n).blocks
-kept_within i n is = each i.zones n is.zones
-  where
-    each : (zs : List Zone) (m : ℕ) → All (IsZone i.geometry) zs → (zone_in zs m).kept ≤ length (zone_in zs m).blocks
-    each [] m all = omega arith
-    each (z ∷ zs) zero all = (All-head (IsZone i.geometry) z zs all).kept
-    each (z ∷ zs) (suc m) all = each zs m (All-tail (IsZone i.geometry) z zs all)
 
 -- a sync keeps all blocks
 synced_data : (i : Image) → IsValidImage i → HaveSameData (λ _. false) i (synced i)

@@ -3,3 +3,4 @@ pub mod Pinned
 pub mod AtRest
 pub mod RestSteps
 pub mod FoundExtents
+pub mod Recovery

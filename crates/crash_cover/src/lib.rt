@@ -5,5 +5,6 @@
 pub mod data;
 pub mod found;
 pub mod pinned;
+pub mod recovery;
 pub mod rest;
 pub mod steps;

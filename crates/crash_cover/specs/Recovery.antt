@@ -1,0 +1,28 @@
+-- The tree that a crash leaves of an image at rest.
+use Rattle.std.specs.Prelude.{◌≡◌, ◌⊎◌, ℕ, List, map}
+use Rattle.zone_image.specs.Image.{Image, IsCrash}
+use Rattle.zone_image.specs.Changes.{appended}
+use Rattle.zone_image.specs.Infos.{IsValidImage}
+use Rattle.zone_image.specs.Moments.{PassedByAppend}
+use Rattle.record_model.specs.declared.types.Record.{Record}
+use Rattle.log_model.specs.LogScan.{record_blocks}
+use Rattle.log_model.specs.LogSelection.{LogAt}
+use Rattle.log_model.specs.FileTable.{Table}
+use Rattle.log_model.specs.FileTree.{Tree, RecoversTo, bytes_in}
+use Rattle.log_model.specs.Mounted.{MountsTo, recovered_entry, tree_of}
+use Rattle.crash_cover.specs.AtRest.{IsAtRest, AddsRecord}
+use Rattle.crash_cover.specs.Pinned.{IsPinned}
+
+-- the bytes that the standing image has of each file, those that are found again among them
+abbrev pub standing_bytes : Image → Table → ℕ → List ℕ
+standing_bytes i es id = bytes_in id (tree_of i (map (recovered_entry i) es))
+
+-- an image mounts to what a crash may leave of a table: its recorded bytes, and of sparse files at most those that stood
+pub record RecoversTable (i : Image) (es : Table) (j : Image) : Type 0 where
+  pub tree : Tree
+  pub mounts : MountsTo j tree
+  pub recovers : RecoversTo tree (tree_of i es) (standing_bytes i es)
+
+-- whatever a crash leaves of an image at rest
+abbrev pub CrashRecovers : Type 0
+CrashRecovers = (i j : Image) (log : LogAt) (greatest : ℕ) (es : Table) → IsAtRest i log greatest es → IsCrash i j → RecoversTable i es j
