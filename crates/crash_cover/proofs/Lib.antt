@@ -4,3 +4,4 @@ pub mod RestLaws
 pub mod StepLaws
 pub mod FoundLaws
 pub mod RecoveryLaws
+pub mod RecordRecovery

@@ -1,5 +1,5 @@
 -- Tables whose extents and recovery points every crash keeps.
-use Rattle.std.specs.Prelude.{◌≡◌, ℕ, ◌+◌, ◌*◌, ◌%◌, ◌<◌, ◌≤◌, Bool, true, false, ◌&&◌, ◌||◌, List, [], ◌∷◌, length, nat_lt, nat_le, ◌==◌, refl}
+use Rattle.std.specs.Prelude.{◌≡◌, ℕ, ◌+◌, ◌*◌, ◌%◌, ◌<◌, ◌≤◌, Bool, true, false, ◌&&◌, ◌||◌, List, [], ◌∷◌, ◌++◌, length, nat_lt, nat_le, ◌==◌, refl}
 use Rattle.std.proofs.Common.{◌∙◌, ap, sym, subst, arith}
 use Rattle.std.proofs.Math.Nat.{mul-le-mul_right}
 use Rattle.std.proofs.lemmas.Bool.{leb-true, le-leb, eqb-false, and_parts, and_from}
@@ -88,6 +88,18 @@ all_weaker p q [] h g = refl
 all_weaker p q (x ∷ xs) h g =
     let parts = and_parts (p x) (list_all p xs) g in
     and_from (q x) (list_all q xs) (h x parts.0) (all_weaker p q xs h parts.1)
+
+-- durable extents of all files are durable of each
+pub split_durable : (i : Image) (e : FileEntry) (es : Table) → list_all (is_durable i) (all_extents (e ∷ es)) ≡ true
+    → (list_all (is_durable i) e.extents ≡ true) × (list_all (is_durable i) (all_extents es) ≡ true)
+split_durable i e es h = parts e.extents h
+  where
+    parts : (xs : List Extent) → list_all (is_durable i) (xs ++ all_extents es) ≡ true → (list_all (is_durable i) xs ≡ true) × (list_all (is_durable i) (all_extents es) ≡ true)
+    parts [] h = (refl, h)
+    parts (x ∷ xs) h =
+        let head = and_parts (is_durable i x) (list_all (is_durable i) (xs ++ all_extents es)) h in
+        let tail = parts xs head.1 in
+        (and_from (is_durable i x) (list_all (is_durable i) xs) head.0 tail.0, tail.1)
 
 pub pinned_table_stays : PinnedTableStays
 pinned_table_stays i j es pos keeps pinned =

@@ -1,7 +1,7 @@
 -- The tree that a crash leaves of an image at rest.
 use Rattle.std.specs.Prelude.{◌≡◌, ◌≢◌, ℕ, zero, suc, ◌+◌, ◌<◌, ◌≤◌, Bool, true, false, not, ◌&&◌, ◌||◌, cond, List, [], ◌∷◌, ◌++◌, length, map, drop, ◌==◌, refl}
 use Rattle.std.proofs.Common.{◌∙◌, ap, sym, subst, append_assoc, append-nil, arith}
-use Rattle.std.proofs.lemmas.Bool.{and_parts, and_from, eq-eqb, ne_eqb}
+use Rattle.std.proofs.lemmas.Bool.{and_parts, eq-eqb, ne_eqb}
 use Rattle.std.proofs.lemmas.List.Elements.{All-head, All-tail}
 use Rattle.std.specs.List.{All, AllByRecursion, AllZip, list_all}
 use mathlib.Core.List.{IsPrefix}
@@ -24,7 +24,7 @@ use Rattle.crash_cover.specs.AtRest.{IsAtRest}
 use Rattle.crash_cover.specs.Pinned.{is_durable, is_durable_point, has_durable_point, IsPinned, KeepsDurable}
 use Rattle.crash_cover.specs.FoundExtents.{IsWrittenIn}
 use Rattle.crash_cover.specs.Recovery.{standing_bytes, CrashRecovers}
-use Rattle.crash_cover.proofs.PinnedTables.{crash_keeps_durable, kept_written, kept_point}
+use Rattle.crash_cover.proofs.PinnedTables.{crash_keeps_durable, kept_written, kept_point, split_durable}
 use Rattle.crash_cover.proofs.RestLaws.{kept_within, crash_at_rest_mounts}
 use Rattle.crash_cover.proofs.FoundLaws.{found_is_written}
 
@@ -42,7 +42,7 @@ sized j n is = zone j.zones n is.zones
     zone (z ∷ zs) (suc m) all = zone zs m (All-tail (IsZone j.geometry) z zs all)
 
 -- bytes of extents, one list behind another
-bytes_append : (i : Image) (xs ys : List Extent) → bytes_of i (xs ++ ys) ≡ bytes_of i xs ++ bytes_of i ys
+pub bytes_append : (i : Image) (xs ys : List Extent) → bytes_of i (xs ++ ys) ≡ bytes_of i xs ++ bytes_of i ys
 bytes_append i [] ys = refl
 bytes_append i (x ∷ xs) ys = ap (λ bs. extent_bytes i x ++ bs) (bytes_append i xs ys) ∙ sym (append_assoc (extent_bytes i x) (bytes_of i xs) (bytes_of i ys))
 
@@ -118,18 +118,6 @@ module _ (i j : Image) (keeps : KeepsDurable i j) (valid : IsValidImage j) (pos 
           ap (λ bs. bs ++ bytes_of i prefix.0) bytes ∙ append_assoc (bytes_of i e.extents) (bytes_of i found) (bytes_of i prefix.0) ∙ sym whole ∙ sym is,
         );
       }
-
--- durable extents of all files are durable of each
-split_durable : (i : Image) (e : FileEntry) (es : Table) → list_all (is_durable i) (all_extents (e ∷ es)) ≡ true
-    → (list_all (is_durable i) e.extents ≡ true) × (list_all (is_durable i) (all_extents es) ≡ true)
-split_durable i e es h = parts e.extents h
-  where
-    parts : (xs : List Extent) → list_all (is_durable i) (xs ++ all_extents es) ≡ true → (list_all (is_durable i) xs ≡ true) × (list_all (is_durable i) (all_extents es) ≡ true)
-    parts [] h = (refl, h)
-    parts (x ∷ xs) h =
-        let head = and_parts (is_durable i x) (list_all (is_durable i) (xs ++ all_extents es)) h in
-        let tail = parts xs head.1 in
-        (and_from (is_durable i x) (list_all (is_durable i) xs) head.0 tail.0, tail.1)
 
 -- the recovery point of each file is kept
 point_kept : (i j : Image) (e : FileEntry) → KeepsDurable i j → has_durable_point i e ≡ true → has_valid_recovery_point j e ≡ true

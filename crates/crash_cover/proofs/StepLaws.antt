@@ -144,7 +144,7 @@ behind_first [] p some = absurd (some refl)
 behind_first (q ∷ qs) p some = refl
 
 -- without its first payload a log has no end record still
-end_behind : (payloads : List (ℕ × List ℕ)) → has_end payloads ≡ false → has_end (drop 1 payloads) ≡ false
+pub end_behind : (payloads : List (ℕ × List ℕ)) → has_end payloads ≡ false → has_end (drop 1 payloads) ≡ false
 end_behind [] h = refl
 end_behind (p ∷ ps) h = (or_parts (bytes_eq p.1 (u32 4)) (has_end ps) h).1
 

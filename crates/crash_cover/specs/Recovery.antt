@@ -26,3 +26,9 @@ pub record RecoversTable (i : Image) (es : Table) (j : Image) : Type 0 where
 -- whatever a crash leaves of an image at rest
 abbrev pub CrashRecovers : Type 0
 CrashRecovers = (i j : Image) (log : LogAt) (greatest : ℕ) (es : Table) → IsAtRest i log greatest es → IsCrash i j → RecoversTable i es j
+
+-- a crash within the append of a record to the log of an image at rest: the table before it, or the one after it
+abbrev pub RecordMomentRecovers : Type 0
+RecordMomentRecovers = (i j : Image) (log : LogAt) (greatest : ℕ) (payload : List ℕ) (r : Record) (es next : Table) → IsAtRest i log greatest es
+    → AddsRecord i log payload r es next → IsPinned i next → IsValidImage (appended i log.zone (record_blocks i.geometry.block payload))
+    → PassedByAppend i log.zone (record_blocks i.geometry.block payload) j → RecoversTable i es j ⊎ RecoversTable i next j
