@@ -14,7 +14,7 @@ use Rattle.image_backend.specs.declared.table.Slot.{Slot}
 use Rattle.image_backend.specs.Format.{info_in, is_descriptor}
 use Rattle.image_backend.specs.Table.{slot_info, slot_of, slots_of, table_of, IsTable}
 
-shifted : (n block : ℕ) (xs : List ℕ) → drop (n * block) (drop block xs) ≡ drop (suc n * block) xs
+pub shifted : (n block : ℕ) (xs : List ℕ) → drop (n * block) (drop block xs) ≡ drop (suc n * block) xs
 shifted n block xs =
     let sum : block + n * block ≡ suc n * block = omega arith in
     drop-drop (n * block) block xs ∙ ap (λ k. drop k xs) sum

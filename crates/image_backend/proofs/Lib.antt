@@ -1,3 +1,9 @@
+mod Answering
+mod Bytes
+mod Described
 mod Descriptors
+mod FileChanges
+mod FileZones
+mod Headers
 mod Places
 mod Tables

@@ -1,19 +1,19 @@
 -- Other numbers for one zone of a table.
-use Rattle.std.proofs.Common.{◌≡◌, ℕ, zero, suc, ◌+◌, ◌<◌, ◌≤◌, false, List, [], ◌∷◌, length, map, replicate, get_or, set, refl, sym, ◌∙◌, ap, subst, arith, IsTrue, Option, Some, Bool, true, ◌||◌, ◌==◌, ⊎_elim, Result, Ok, Err}
+use Rattle.std.proofs.Common.{◌≡◌, ℕ, zero, suc, ◌+◌, ◌<◌, ◌≤◌, false, List, [], ◌∷◌, length, map, replicate, get_or, set, refl, sym, ◌∙◌, ap, subst, arith, IsTrue, Bool, true, ◌||◌, ◌==◌, ⊎_elim, Result, Ok, Err}
 use Rattle.std.specs.List.{All}
-use Rattle.std.proofs.lemmas.Bool.{cases_eq, ne_eqb}
+use Rattle.std.proofs.lemmas.Bool.{cases_eq, ne_eqb, eq-eqb, or_right}
 use Rattle.std.proofs.lemmas.List.{get_or-map, length-map, map-set}
 use Rattle.std.proofs.lemmas.List.Elements.{All-set, All-get_or, All-nil, All-cons, All-replicate}
 use Rattle.zone_image.specs.declared.Geometry.{Geometry}
 use Rattle.zone_image.specs.declared.ZoneInfo.{ZoneInfo}
 use Rattle.zone_image.specs.Image.{is_valid}
 use Rattle.zone_image.specs.Changes.{change_at}
-use Rattle.zone_image.specs.Infos.{no_info, info_at, active_zones, info_appended, info_finished, infos_appended, infos_finished, infos_emptied, infos_blank, IsPossibleInfo, IsPossible, ShowsSome}
+use Rattle.zone_image.specs.Infos.{no_info, info_at, active_zones, info_appended, info_finished, infos_appended, infos_finished, infos_emptied, infos_blank, IsPossibleInfo, IsPossible}
 use Rattle.zone_image.proofs.ImageLaws.{change_at_is}
 use Rattle.zone_image.proofs.InfoLaws.{possible_appended, possible_finished, possible_emptied, valid_blank, infos-blank}
 use Rattle.std.specs.Prelude.{OnOk, OnErr}
 use Rattle.image_backend.specs.Contents.{SameFile}
-use Rattle.image_backend.specs.ImageState.{geometry_in, infos_in, no_image, HoldsZones, HoldsTable}
+use Rattle.image_backend.specs.ImageState.{HoldsZones, HoldsTable}
 use Rattle.image_backend.specs.declared.table.Slot.{Slot}
 use Rattle.image_backend.specs.Table.{TableState, slot_info, table_infos, no_slot, slot_at, with_slot, slot_appended, slot_finished, slot_synced, table_blank, table_synced, IsTable}
 
@@ -68,6 +68,23 @@ module _ (t : TableState) (zone : ℕ) (is : IsTable t) (in_range : zone < t.geo
   pub table_with_none : IsTable (with_slot t zone no_slot)
   table_with_none = table_with no_slot (infos_emptied (table_infos t) zone) infos_with_none (possible_emptied t.geometry (table_infos t) zone is.possible in_range) (omega arith)
 
+-- the numbers that a change gives a zone are possible
+module _ (t : TableState) (zone : ℕ) (is : IsTable t) (in_range : zone < t.geometry.zones) where
+  pub slot_possible : IsPossibleInfo t.geometry (slot_info (slot_at t zone))
+  slot_possible = subst (IsPossibleInfo t.geometry) (info_is t zone is in_range) (info_possible t zone is in_range)
+
+  pub finished_possible : IsPossibleInfo t.geometry (slot_info (slot_finished (slot_at t zone)))
+  finished_possible = record { room = slot_possible.room; full = λ _. refl }
+
+  pub appended_possible : (count : ℕ) → (slot_at t zone).written + count ≤ t.geometry.capacity → IsPossibleInfo t.geometry (slot_info (slot_appended t.geometry.capacity count (slot_at t zone)))
+  appended_possible count room = record { room = room; full = λ full. or_right (slot_at t zone).sealed _ (eq-eqb _ _ full) }
+
+pub none_possible : (g : Geometry) → IsTrue (is_valid g) → IsPossibleInfo g (slot_info no_slot)
+none_possible g valid = record { room = omega arith; full = λ full. absurd (omega (arith, least, full)) }
+  where
+    least : 8 ≤ g.capacity
+    least = grind (arith, valid)
+
 -- a change that leaves the item as it is
 pub change_at_same : {A : Type 0} (n : ℕ) (f : A → A) (xs : List A) (d : A) → n < length xs → f (get_or xs n d) ≡ get_or xs n d → change_at n f xs ≡ xs
 change_at_same n f [] d in_range same = refl
@@ -75,7 +92,7 @@ change_at_same zero f (x ∷ xs) d in_range same = ap (λ y. y ∷ xs) same
 change_at_same (suc n) f (x ∷ xs) d in_range same = ap (λ l. x ∷ l) (change_at_same n f xs d (omega arith) same)
 
 -- no block more changes nothing of a possible zone
-info_with_none : (g : Geometry) (info : ZoneInfo) → IsPossibleInfo g info → info_appended g.capacity 0 info ≡ info
+pub info_with_none : (g : Geometry) (info : ZoneInfo) → IsPossibleInfo g info → info_appended g.capacity 0 info ≡ info
 info_with_none g info is = λ i. record { written = count i; sealed = seal i }
   where
     count : info.written + 0 ≡ info.written
@@ -157,19 +174,3 @@ held_same is_open is_sized size g old new same was = record {
   known = same.still_sized was.known;
   long = omega (arith, same.same_size was.known, was.long);
 }
-
--- a failed append leaves the table: it wrote none of its blocks
-module _ {T E : Type 0} (r : Result T E) (t new : TableState) (zone : ℕ) (is : IsTable t) (in_range : zone < t.geometry.zones) where
-  pub append_failed : (o : Option TableState) → o ≡ Some t → OnErr r (new ≡ t) → (added : List (List ℕ)) → OnErr r (ShowsSome (geometry_in o) ⊥ zone added (infos_in o) no_image (table_infos new) no_image)
-  append_failed o there same added = subst (λ p. OnErr r (ShowsSome (geometry_in p) ⊥ zone added (infos_in p) no_image (table_infos new) no_image)) (sym there) (when r same)
-    where
-      when : (q : Result T E) → OnErr q (new ≡ t) → OnErr q (ShowsSome t.geometry ⊥ zone added (table_infos t) no_image (table_infos new) no_image)
-      when (Ok x) none = tt
-      when (Err e) left = record {
-        count = 0;
-        some = omega arith;
-        shows = record {
-          same_infos = ap table_infos left ∙ sym (infos_with_no_more t.geometry (table_infos t) zone is.possible in_range);
-          same_image = λ none. absurd none;
-        };
-      }

@@ -2,7 +2,6 @@
 use Rattle.std.specs.Prelude.{◌≡◌, ℕ, ◌+◌, ◌≤◌, false, List, [], Option, None, Some}
 use Rattle.zone_image.specs.declared.Geometry.{Geometry}
 use Rattle.zone_image.specs.declared.ZoneInfo.{ZoneInfo}
-use Rattle.zone_image.specs.Image.{Image}
 use Rattle.zone_image.specs.Infos.{IsPossible}
 use Rattle.zone_image.specs.Counts.{next_count}
 use Rattle.zoned_device.specs.declared.error.MakeError.{MakeError}
@@ -56,10 +55,6 @@ pub known_possible : {F : Type 0} (is_open is_sized : F → Type 0) (size : F �
     → IsPossible (geometry_in table) (infos_in table)
 known_possible is_open is_sized size None file none = absurd none
 known_possible is_open is_sized size (Some t) file is = is.table.possible
-
--- what stands for an image that isn't told
-abbrev pub no_image : Image
-no_image = record { geometry = no_geometry; zones = [] }
 
 -- the counts at the begin
 abbrev pub no_counts : Counts

@@ -4,3 +4,5 @@ pub mod DiskFileState
 pub mod Format
 pub mod Table
 pub mod ImageState
+pub mod FileImage
+pub mod ImageLaws

@@ -1,12 +1,14 @@
 // The changes of an image in a file: each writes to the file, and then the table takes over what was written.
 ghost use Rattle.std.specs.Prelude.{◌≡◌, ◌+◌, ◌*◌, ◌/◌, ◌%◌, ◌<◌, ◌≤◌, true, false, length, IfOk, OnOk, OnErr, IsErr, IsTrue};
 ghost use Rattle.zone_image.specs.Image.{is_valid};
-ghost use Rattle.zone_image.specs.Infos.{info_at, active_zones, infos_appended, infos_finished, infos_emptied};
+ghost use Rattle.zone_image.specs.Changes.{blocks_in, appended, finished, emptied, synced};
+ghost use Rattle.zone_image.specs.Infos.{info_at, active_zones, infos_appended, infos_finished, infos_emptied, IsPossibleInfo};
 ghost use Rattle.zone_image.specs.Counts.{HasCause, Counts as Counted};
-ghost use Rattle.image_backend.specs.Contents.{patched};
-ghost use Rattle.image_backend.specs.Format.{block_at, descriptor_at, descriptor_bytes};
+ghost use Rattle.image_backend.specs.Contents.{patched, SameOutside};
+ghost use Rattle.image_backend.specs.Format.{descriptor_at, descriptor_bytes};
 ghost use Rattle.image_backend.specs.Table.{table_infos, slot_info, slot_at, slot_appended, slot_finished, no_slot, with_slot, table_synced};
 ghost use Rattle.image_backend.specs.ImageState.{change_counted, HoldsTable, HoldsZones, IsFair};
+ghost use Rattle.image_backend.specs.FileImage.{image_with, IsDescribed};
 
 use crate::byte_file::ByteFile;
 use crate::counts::Counts;
@@ -24,6 +26,7 @@ pub(crate) fn append<F: ByteFile>(
 ) -> Result<u32, DevFault>
     requires known { HoldsTable F.is_open F.is_sized F.size table.old file.old }
     requires fair { IsFair (F.faults file.old) counts.old }
+    requires described { IsDescribed F.tells counts.old.broken table.old (F.contents file.old) }
     requires is_zone { zone < table.old.geometry.zones }
     requires whole { length bytes.now % table.old.geometry.block ≡ 0 }
     requires unsealed { (info_at (table_infos table.old) zone).sealed ≡ false }
@@ -37,6 +40,11 @@ pub(crate) fn append<F: ByteFile>(
     ensures new_infos { OnOk result (table_infos table.new ≡ infos_appended table.old.geometry (table_infos table.old) zone
         (length bytes.now / table.old.geometry.block)) }
     ensures not_done { OnErr result (table.new ≡ table.old) }
+    ensures new_image { OnOk result (F.tells → image_with table.new (F.contents file.new)
+        ≡ appended (image_with table.old (F.contents file.old)) zone (blocks_in table.old.geometry bytes.now)) }
+    ensures same_image { OnErr result (F.tells → image_with table.new (F.contents file.new)
+        ≡ image_with table.old (F.contents file.old)) }
+    ensures still_described { IsDescribed F.tells counts.new.broken table.new (F.contents file.new) }
     ensures still_known { HoldsTable F.is_open F.is_sized F.size table.new file.new }
     ensures refused { IsTrue counts.old.broken → IsErr result }
     ensures still_fair { IsFair (F.faults file.new) counts.new }
@@ -65,12 +73,16 @@ pub(crate) fn finish<F: ByteFile>(
 ) -> Result<(), DevFault>
     requires known { HoldsTable F.is_open F.is_sized F.size table.old file.old }
     requires fair { IsFair (F.faults file.old) counts.old }
+    requires described { IsDescribed F.tells counts.old.broken table.old (F.contents file.old) }
     requires is_zone { zone < table.old.geometry.zones }
     ensures done { OnOk result (table.new ≡ with_slot table.old zone (slot_finished (slot_at table.old zone))) }
     ensures new_infos { OnOk result (table_infos table.new ≡ infos_finished (table_infos table.old) zone) }
-    ensures written { OnOk result (F.tells → F.contents file.new
-        ≡ patched (descriptor_at zone) (descriptor_bytes (slot_info (slot_finished (slot_at table.old zone)))) (F.contents file.old)) }
     ensures not_done { OnErr result (table.new ≡ table.old) }
+    ensures new_image { OnOk result (F.tells → image_with table.new (F.contents file.new)
+        ≡ finished (image_with table.old (F.contents file.old)) zone) }
+    ensures same_image { OnErr result (F.tells → image_with table.new (F.contents file.new)
+        ≡ image_with table.old (F.contents file.old)) }
+    ensures still_described { IsDescribed F.tells counts.new.broken table.new (F.contents file.new) }
     ensures still_known { HoldsTable F.is_open F.is_sized F.size table.new file.new }
     ensures refused { IsTrue counts.old.broken → IsErr result }
     ensures still_fair { IsFair (F.faults file.new) counts.new }
@@ -91,12 +103,16 @@ pub(crate) fn reset<F: ByteFile>(
 ) -> Result<(), DevFault>
     requires known { HoldsTable F.is_open F.is_sized F.size table.old file.old }
     requires fair { IsFair (F.faults file.old) counts.old }
+    requires described { IsDescribed F.tells counts.old.broken table.old (F.contents file.old) }
     requires is_zone { zone < table.old.geometry.zones }
     ensures done { OnOk result (table.new ≡ with_slot table.old zone no_slot) }
     ensures new_infos { OnOk result (table_infos table.new ≡ infos_emptied (table_infos table.old) zone) }
-    ensures written { OnOk result (F.tells → F.contents file.new
-        ≡ patched (descriptor_at zone) (descriptor_bytes (slot_info no_slot)) (F.contents file.old)) }
     ensures not_done { OnErr result (table.new ≡ table.old) }
+    ensures new_image { OnOk result (F.tells → image_with table.new (F.contents file.new)
+        ≡ emptied (image_with table.old (F.contents file.old)) zone) }
+    ensures same_image { OnErr result (F.tells → image_with table.new (F.contents file.new)
+        ≡ image_with table.old (F.contents file.old)) }
+    ensures still_described { IsDescribed F.tells counts.new.broken table.new (F.contents file.new) }
     ensures still_known { HoldsTable F.is_open F.is_sized F.size table.new file.new }
     ensures refused { IsTrue counts.old.broken → IsErr result }
     ensures still_fair { IsFair (F.faults file.new) counts.new }
@@ -115,10 +131,15 @@ pub(crate) fn sync<F: ByteFile>(
 ) -> Result<(), DevFault>
     requires known { HoldsTable F.is_open F.is_sized F.size table.old file.old }
     requires fair { IsFair (F.faults file.old) counts.old }
+    requires described { IsDescribed F.tells counts.old.broken table.old (F.contents file.old) }
     ensures done { OnOk result (table.new ≡ table_synced table.old) }
     ensures same_infos { table_infos table.new ≡ table_infos table.old }
-    ensures same_contents { F.tells → F.contents file.new ≡ F.contents file.old }
     ensures not_done { OnErr result (table.new ≡ table.old) }
+    ensures new_image { OnOk result (F.tells → image_with table.new (F.contents file.new)
+        ≡ synced (image_with table.old (F.contents file.old))) }
+    ensures same_image { OnErr result (F.tells → image_with table.new (F.contents file.new)
+        ≡ image_with table.old (F.contents file.old)) }
+    ensures still_described { IsDescribed F.tells counts.new.broken table.new (F.contents file.new) }
     ensures still_known { HoldsTable F.is_open F.is_sized F.size table.new file.new }
     ensures refused { IsTrue counts.old.broken → IsErr result }
     ensures still_fair { IsFair (F.faults file.new) counts.new }
@@ -145,12 +166,16 @@ fn put_slot<F: ByteFile>(
     requires count { length table.old.slots ≡ table.old.geometry.zones }
     requires holds { HoldsZones F.is_open F.is_sized F.size table.old.geometry file.old }
     requires fair { IsFair (F.faults file.old) counts.old }
+    requires described { IsDescribed F.tells counts.old.broken table.old (F.contents file.old) }
     requires is_zone { zone < table.old.geometry.zones }
+    requires possible { IsPossibleInfo table.old.geometry (slot_info slot) }
     ensures done { OnOk result (table.new ≡ with_slot table.old zone slot) }
     ensures not_done { OnErr result (table.new ≡ table.old) }
     ensures holds { HoldsZones F.is_open F.is_sized F.size table.old.geometry file.new }
     ensures written { OnOk result (F.tells → F.contents file.new
         ≡ patched (descriptor_at zone) (descriptor_bytes (slot_info slot)) (F.contents file.old)) }
+    ensures after_fault { OnErr result (F.tells → SameOutside (descriptor_at zone) 8 (F.contents file.old) (F.contents file.new)) }
+    ensures described { IsDescribed F.tells counts.new.broken table.new (F.contents file.new) }
     ensures same_counts { OnOk result (counts.new ≡ counts.old) }
     ensures broken { OnErr result (counts.new ≡ record (change_counted counts.old) { broken = true }) }
     ensures still_fair { IsFair (F.faults file.new) counts.new }

@@ -1,5 +1,8 @@
 // A zoned device kept in an image file.
-ghost use Rattle.std.specs.Prelude.{◌≡◌, None, false};
+ghost use Rattle.std.specs.Prelude.{◌≡◌, None, true, false, IsSome};
+ghost use Rattle.zone_image.specs.Changes.{synced};
+ghost use Rattle.image_backend.specs.Format.{is_image};
+ghost use Rattle.image_backend.specs.FileImage.{found_image, standing_image};
 
 use crate::byte_file::ByteFile;
 use crate::counts::Counts;
@@ -10,9 +13,10 @@ use std::marker::Model;
 use zone_image::{Geometry, ZoneInfo};
 use zoned_device::{DevFault, MakeError, ProbeError, ZonedDevice};
 
-/// A device over a file that holds an image. It tells its geometry, and the written number and the seal of each zone,
-/// and says nothing of its blocks. After a failed write of a descriptor each later append, finish, reset and sync
-/// fails. Apart from these, it has no more faults than its file.
+/// A device over a file that holds an image. Where the file tells its bytes, the device tells its image: the blocks of
+/// a zone are the bytes at its place. It tells nothing of crashes. After a failed write of a descriptor each later
+/// append, finish, reset and sync fails; the device then goes on reading the blocks that it knows, and nothing is told
+/// of what another device finds in the file. Apart from these, it has no more faults than its file.
 #[derive(Drop)]
 pub struct ImageZones<F: ByteFile> {
     alloc: Global,
@@ -29,8 +33,10 @@ impl<F: ByteFile> Model for ImageZones<F> {
     ghost view = { λ d. record { file = d.file; table = d.table; counts = d.counts } };
 
     ghost use Rattle.image_backend.specs.ImageState.{IsHeld, IsFair};
+    ghost use Rattle.image_backend.specs.FileImage.{IsDescribedIn};
 
-    ghost invariant = { λ d. IsHeld F.is_open F.is_sized F.size d.table d.file × IsFair (F.faults d.file) d.counts };
+    ghost invariant = { λ d. IsHeld F.is_open F.is_sized F.size d.table d.file × IsFair (F.faults d.file) d.counts
+        × IsDescribedIn F.tells d.counts.broken d.table (F.contents d.file) };
 }
 
 impl<F: ByteFile> ImageZones<F> {
@@ -53,9 +59,13 @@ impl<F: ByteFile> ImageZones<F> {
         }
     }
 
-    /// The file.
+    /// The file. Where zones are known and no descriptor's write failed, its bytes hold an image, and it is the one of
+    /// the device with all its blocks durable.
     pub fn into_file(self) -> F
-        ensures { result ≡ self.file }
+        ensures file { result ≡ self.file }
+        ensures holds { F.tells → IsSome self.table → self.counts.broken ≡ false → is_image (F.contents result) ≡ true }
+        ensures found { F.tells → IsSome self.table → self.counts.broken ≡ false
+            → found_image (F.contents result) ≡ synced (standing_image self.table (F.contents self.file)) }
     {
         self.file
     }
@@ -63,7 +73,9 @@ impl<F: ByteFile> ImageZones<F> {
 
 impl<F: ByteFile> ZonedDevice for ImageZones<F> {
     ghost use Rattle.zone_image.specs.Counts.{last_tick};
-    ghost use Rattle.image_backend.specs.ImageState.{IsKnown, geometry_in, infos_in, no_image, known_possible};
+    ghost use Rattle.image_backend.specs.ImageState.{IsKnown, geometry_in, infos_in, known_possible};
+    ghost use Rattle.image_backend.specs.FileImage.{standing_image, IsNoImage};
+    ghost use Rattle.image_backend.specs.ImageLaws.{known_image, known_there};
 
     ghost known = { λ d. IsKnown F.is_open F.is_sized F.size d.table d.file };
 
@@ -71,11 +83,11 @@ impl<F: ByteFile> ZonedDevice for ImageZones<F> {
 
     ghost infos = { λ d. infos_in d.table };
 
-    ghost tells = { ⊥ };
+    ghost tells = { F.tells };
 
-    ghost absent = { λ _. ⊥ };
+    ghost absent = { λ d. IsNoImage d.table (F.contents d.file) };
 
-    ghost image = { λ _. no_image };
+    ghost image = { λ d. standing_image d.table (F.contents d.file) };
 
     ghost tells_now = { ⊥ };
 
@@ -185,9 +197,9 @@ impl<F: ByteFile> ZonedDevice for ImageZones<F> {
 
     ghost possible = { λ d known. known_possible F.is_open F.is_sized F.size d.table d.file known };
 
-    ghost told = { λ _ untold _. absurd untold };
+    ghost told = { λ d tells known. known_image F.is_open F.is_sized F.size d.table d.file (F.contents d.file) (F.told d.file tells) known };
 
-    ghost there = { λ _ untold _ _. absurd untold };
+    ghost there = { λ d _ known absent. known_there F.is_open F.is_sized F.size d.table d.file (F.contents d.file) known absent };
 
     ghost moments = { record { earlier = λ _ _ _ _ _ none. absurd none; since_now = λ _ _ none. absurd none; since_told = λ _ _ _ none. absurd none } };
 

@@ -1,10 +1,12 @@
 // Writes a new image to a file.
-ghost use Rattle.std.specs.Prelude.{◌≡◌, ◌↔◌, ◌+◌, length, false, OnOk, IsErr, IsErrOf, IsTrue};
+ghost use Rattle.std.specs.Prelude.{◌≡◌, ◌↔◌, ◌+◌, length, true, false, OnOk, IsErr, IsErrOf, IsTrue};
 ghost use Rattle.zone_image.specs.Image.{is_valid};
+ghost use Rattle.zone_image.specs.Changes.{blank};
 ghost use Rattle.zone_image.specs.Counts.{HasCause};
 ghost use Rattle.image_backend.specs.Contents.{patched, SameFile};
-ghost use Rattle.image_backend.specs.Format.{header_bytes, zones_at, new_image};
+ghost use Rattle.image_backend.specs.Format.{header_bytes, zones_at, is_image, new_image};
 ghost use Rattle.image_backend.specs.ImageState.{HoldsZones};
+ghost use Rattle.image_backend.specs.FileImage.{found_image};
 
 use crate::byte_file::{ByteFile, FileFault, SetLenError};
 use crate::format::{self, HEADER_BYTES};
@@ -27,8 +29,8 @@ pub enum ImageError {
     NoMemory,
 }
 
-/// Makes an image of this geometry in a file, in place of what is there: all zones are empty. `BadGeometry` comes
-/// exactly where the geometry isn't valid.
+/// Makes an image of this geometry in a file, in place of what is there: all zones are empty, as `made`, `found` and
+/// `empty` say. `BadGeometry` comes exactly where the geometry isn't valid.
 pub fn make_image<F: ByteFile>(
     alloc: Global,
     file: &mut F,
@@ -36,6 +38,8 @@ pub fn make_image<F: ByteFile>(
 ) -> Result<(), ImageError>
     ensures bad_geometry { IsErrOf result ImageError.BadGeometry ↔ is_valid geometry.now ≡ false }
     ensures made { OnOk result (F.tells → F.contents file.new ≡ new_image geometry.now (F.contents file.old)) }
+    ensures found { OnOk result (F.tells → is_image (F.contents file.new) ≡ true) }
+    ensures empty { OnOk result (F.tells → found_image (F.contents file.new) ≡ blank geometry.now) }
     ensures no_memory { IsErrOf result ImageError.NoMemory → F.tells → F.contents file.new ≡ F.contents file.old }
     ensures cause { HasCause (F.faults file.old) (F.faults file.new) (IsErrOf result ImageError.Fault) }
 {

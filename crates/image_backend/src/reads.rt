@@ -1,11 +1,12 @@
 // Reads of the zones in a file.
-ghost use Rattle.std.specs.Prelude.{◌≡◌, ◌+◌, ◌/◌, ◌%◌, ◌<◌, ◌≤◌, length, take, drop, OnOk, IsErr};
+ghost use Rattle.std.specs.Prelude.{◌≡◌, ◌+◌, ◌/◌, ◌%◌, ◌<◌, ◌≤◌, length, OnOk, IsErr};
+ghost use Rattle.zone_image.specs.Changes.{bytes_at};
 ghost use Rattle.zone_image.specs.Counts.{HasCause};
 ghost use Rattle.zone_image.specs.Infos.{info_at};
 ghost use Rattle.image_backend.specs.Contents.{SameFile};
-ghost use Rattle.image_backend.specs.Format.{block_at};
 ghost use Rattle.image_backend.specs.Table.{table_infos};
 ghost use Rattle.image_backend.specs.ImageState.{HoldsTable};
+ghost use Rattle.image_backend.specs.FileImage.{image_with};
 
 use crate::byte_file::{ByteFile, FileFault};
 use crate::format::block_at;
@@ -24,7 +25,7 @@ pub(crate) fn read<F: ByteFile>(
     requires whole { length out.old % table.now.geometry.block ≡ 0 }
     requires written { block + length out.old / table.now.geometry.block ≤ (info_at (table_infos table.now) zone).written }
     ensures bytes { OnOk result (F.tells → out.new
-        ≡ take (length out.old) (drop (block_at table.now.geometry zone block) (F.contents file.old))) }
+        ≡ bytes_at (image_with table.now (F.contents file.old)) zone block (length out.old / table.now.geometry.block)) }
     ensures same { SameFile F.is_open F.is_sized F.size F.tells F.contents file.old file.new }
     ensures cause { HasCause (F.faults file.old) (F.faults file.new) (IsErr result) }
 {

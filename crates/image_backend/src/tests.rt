@@ -35,6 +35,25 @@ fn found_with(
     Ok(device.probe())
 }
 
+// The written blocks and the seal of each zone.
+fn zones_of(device: &mut ImageZones<MemFile>) -> Result<[(u32, bool); 32], Fail> {
+    let mut zones = [(0, false); 32];
+    for zone in 0..32 {
+        zones[zone as usize] = zone_of(device, zone)?;
+    }
+    Ok(zones)
+}
+
+// The written blocks and the seal of a zone.
+fn zone_of(device: &mut ImageZones<MemFile>, zone: u32) -> Result<(u32, bool), Fail> {
+    let shape = device.probe()?;
+    if zone >= shape.zones {
+        return Err("no such zone".into());
+    }
+    let info = device.report(zone)?;
+    Ok((info.written, info.sealed))
+}
+
 #[test]
 fn a_file_in_memory_keeps_what_is_written_and_fails_as_listed(rt: HostRuntime) -> Result<(), Fail> {
     let alloc = rt.alloc();
@@ -110,6 +129,28 @@ fn what_was_written_is_found_again_by_another_device(rt: HostRuntime) -> Result<
     }
     assert_eq!(rt; read.as_slice(), [7; 512].as_slice());
     assert_eq!(rt; again.faults(), 0);
+    Ok(())
+}
+
+#[test]
+fn another_device_finds_the_same_zones(rt: HostRuntime) -> Result<(), Fail> {
+    let alloc = rt.alloc();
+    let mut device = ImageZones::new(alloc, MemFile::none(alloc, Vec::new(alloc)));
+    device.make(&SHAPE)?;
+    assert_eq!(rt; device.append(3, &[7; 1024]), Ok(0));
+    assert_eq!(rt; device.finish(4), Ok(()));
+    let mut wanted = [(0, false); 32];
+    wanted[3] = (2, false);
+    wanted[4] = (0, true);
+
+    let mut second = ImageZones::new(alloc, device.into_file());
+    assert_eq!(rt; zones_of(&mut second)?, wanted);
+    assert_eq!(rt; second.probe()?, SHAPE);
+    assert_eq!(rt; second.reset(3), Ok(()));
+    wanted[3] = (0, false);
+
+    let mut third = ImageZones::new(alloc, second.into_file());
+    assert_eq!(rt; zones_of(&mut third)?, wanted);
     Ok(())
 }
 

@@ -1,10 +1,12 @@
-use Rattle.std.proofs.Common.{◌≡◌, ◌+◌, ◌/◌, ◌≤◌, ◌∙◌, ap, length, arith}
+use Rattle.std.proofs.Common.{◌≡◌, ◌+◌, ◌/◌, ◌≤◌, ◌∙◌, ap, subst, take, drop, length, arith}
+use Rattle.std.proofs.lemmas.Result.{on_ok_weaker}
 use Rattle.zone_image.specs.declared.Geometry.{Geometry}
 use Rattle.zone_image.specs.Infos.{info_at, IsPossibleInfo}
 use Rattle.image_backend.specs.Format.{block_at}
-use Rattle.image_backend.specs.Table.{table_infos}
+use Rattle.image_backend.specs.Table.{table_infos, slot_at}
 use Rattle.image_backend.proofs.Places.{blocks_within}
-use Rattle.image_backend.proofs.Tables.{info_possible}
+use Rattle.image_backend.proofs.FileChanges.{image_read}
+use Rattle.image_backend.proofs.Tables.{info_is, info_possible}
 use Rattle.image_backend.proofs.reads.read.Goals as goal
 
 pub block_at-requires-clause-is_block : goal.block_at-requires-clause-is_block
@@ -21,3 +23,17 @@ read_at-requires-clause-within g c =
     let room : c.args.block + length c.args.out.now / t.geometry.block ≤ t.geometry.capacity = omega (arith, possible.room, c.requires.written) in
     let within = blocks_within t.geometry c.args.zone c.args.block (length c.args.out.now) c.requires.known.table.possible.valid c.requires.is_zone c.requires.whole room in
     omega (arith, within, c.requires.known.zones.long, at)
+
+pub returns-clause-bytes : goal.returns-clause-bytes
+returns-clause-bytes g c =
+    let t = c.args.table.now in
+    let zone = c.args.zone in
+    let block = c.args.block in
+    let bytes = length c.args.out.now in
+    let contents = g.F.ByteFile.contents c.args.file.now in
+    let at : c.block_at.result ≡ block_at t.geometry zone block = c.block_at.ensures ∙ ap (λ (shape : Geometry). block_at shape zone block) c.geometry-geometry.ensures in
+    let written : block + bytes / t.geometry.block ≤ (slot_at t zone).written =
+    subst (λ info. block + bytes / t.geometry.block ≤ info.written) (info_is t zone c.requires.known.table c.requires.is_zone) c.requires.written in
+    on_ok_weaker c.read_at.result
+    (λ read told. read told ∙ ap (λ k. take bytes (drop k contents)) at ∙ image_read t zone block bytes contents c.requires.known.table c.requires.is_zone c.requires.whole written)
+    c.read_at.ensures.bytes

@@ -1,6 +1,8 @@
-use Rattle.std.proofs.Common.{subst, sym, ◌∙◌, ap, arith}
-use Rattle.image_backend.specs.Table.{table_infos}
+use Rattle.std.proofs.Common.{ℕ, List, subst, sym, ◌∙◌, ap, arith}
+use Rattle.image_backend.specs.Table.{TableState, table_infos, table_blank}
 use Rattle.image_backend.specs.ImageState.{HoldsTable}
+use Rattle.image_backend.specs.FileImage.{Describes, image_with}
+use Rattle.image_backend.proofs.Described.{described_new, image_blank}
 use Rattle.image_backend.proofs.Tables.{infos_with_blank, table_with_blank}
 use Rattle.image_backend.proofs.image_zones.ImageZonesZonedDevice.make.Goals as goal
 
@@ -21,4 +23,13 @@ invariant_of-self g c = (
     zones = c.in-Ok.ensures.holds;
   }),
   omega (arith, c.self.invariant.1, c.in-Ok.ensures.cause.never_falls),
+  λ told unbroken.
+      let old = g.F.ByteFile.contents c.self.inside.file in
+      subst (λ (t : TableState). Describes (g.F.ByteFile.contents c.write_image.new.file) t) (sym c.in_ok-table.ensures)
+      (subst (λ (l : List ℕ). Describes l (table_blank c.args.shape.now)) (sym (c.in-Ok.ensures.made told)) (described_new c.args.shape.now old c.requires)),
 )
+
+pub returns-in-Ok-clause-new_image : goal.returns-in-Ok-clause-new_image
+returns-in-Ok-clause-new_image g c told =
+    let new = g.F.ByteFile.contents c.write_image.new.file in
+    ap (λ (t : TableState). image_with t new) c.in_ok-table.ensures ∙ image_blank c.args.shape.now new
