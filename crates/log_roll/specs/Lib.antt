@@ -4,3 +4,5 @@ pub mod NewLog
 pub mod FormatOrder
 pub mod FirstPayload
 pub mod Formatting
+pub mod RollMemory
+pub mod Rolling

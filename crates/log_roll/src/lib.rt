@@ -1,12 +1,18 @@
 //! Logs over the three metadata zones of a device: how one is begun anew, and how a device is formatted.
 #![tactic(auto)]
 
+mod buffer;
 mod formatting;
+mod log_end;
 mod order;
 mod records;
 mod resets;
+mod roll_error;
+mod roll_steps;
 mod steps;
 
+pub use buffer::RollBuffer;
 pub use formatting::format;
 pub use log_model::{Chosen, Damage, DamageWhy};
 pub use meta_log::LogError;
+pub use roll_error::RollError;
