@@ -5,3 +5,7 @@ pub mod Blanking
 pub mod Formatted
 pub mod Closing
 pub mod Rolled
+pub mod LoneLogs
+pub mod RollFacts
+pub mod SelectedFacts
+pub mod RollSelects

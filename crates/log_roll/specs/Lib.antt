@@ -6,3 +6,4 @@ pub mod FirstPayload
 pub mod Formatting
 pub mod RollMemory
 pub mod Rolling
+pub mod FormatLeaves

@@ -16,7 +16,7 @@ pub struct RollBuffer {
     block: u32,
     capacity: u32,
     len: u64,
-    bytes: Vec<u8>,
+    pub(crate) bytes: Vec<u8>,
 }
 
 impl Model for RollBuffer {

@@ -9,6 +9,7 @@ mod records;
 mod resets;
 mod roll_error;
 mod roll_steps;
+mod rolling;
 mod steps;
 
 pub use buffer::RollBuffer;
@@ -16,3 +17,4 @@ pub use formatting::format;
 pub use log_model::{Chosen, Damage, DamageWhy};
 pub use meta_log::LogError;
 pub use roll_error::RollError;
+pub use rolling::{roll, roll_with};
