@@ -19,13 +19,13 @@ ok_then A B (Ok x) h step = step h
 ok_then A B (Err e) h step = tt
 
 -- the item that was put
-put_here : {A : Type 0} (n : ℕ) (x : A) (xs : List A) → get_or (change_at n (λ _. x) xs) n x ≡ x
+pub put_here : {A : Type 0} (n : ℕ) (x : A) (xs : List A) → get_or (change_at n (λ _. x) xs) n x ≡ x
 put_here n x [] = refl
 put_here zero x (y ∷ ys) = refl
 put_here (suc n) x (y ∷ ys) = put_here n x ys
 
 -- an item that is there already stays
-stays_put : {A : Type 0} (n m : ℕ) (x : A) (xs : List A) → get_or xs m x ≡ x → get_or (change_at n (λ _. x) xs) m x ≡ x
+pub stays_put : {A : Type 0} (n m : ℕ) (x : A) (xs : List A) → get_or xs m x ≡ x → get_or (change_at n (λ _. x) xs) m x ≡ x
 stays_put n m x xs there = ⊎_elim
     (λ same. ap (λ k. get_or (change_at n (λ _. x) xs) k x) same ∙ put_here n x xs)
     (λ other. other_item n m (λ _. x) xs x other ∙ there)

@@ -8,3 +8,9 @@ pub mod ZoneChanges
 pub mod FirstRecords
 pub mod Blanking
 pub mod Formatted
+pub mod Closing
+pub mod Rolled
+pub mod LoneLogs
+pub mod RollFacts
+pub mod SelectedFacts
+pub mod RollSelects

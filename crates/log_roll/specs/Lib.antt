@@ -10,3 +10,6 @@ pub mod NewLog
 pub mod FormatOrder
 pub mod FirstPayload
 pub mod Formatting
+pub mod RollMemory
+pub mod Rolling
+pub mod FormatLeaves

@@ -1,0 +1,11 @@
+use Rattle.std.proofs.Common.{inl, subst}
+use Rattle.log_roll.specs.Rolling.{PassedByEnd}
+use Rattle.log_roll.proofs.DeviceCalls.{done_then}
+use Rattle.log_roll.proofs.log_end.end_log.Goals as goal
+
+pub returns-clause-device : goal.returns-clause-device
+returns-clause-device g c =
+    let D = g.D.ZonedDevice in
+    let dev = c.args.dev.now in
+    done_then g.met.D.ZonedDevice.moments (PassedByEnd c.args.zone (D.image dev)) c.in_ok-info.ensures.device (λ failed. cc) c.end_with.ensures.device
+    (λ j told crash. inl crash) (λ j told passed. subst (λ i. PassedByEnd c.args.zone i j) (c.report.ensures.image told) passed)

@@ -1,0 +1,27 @@
+use Rattle.std.proofs.Common.{◌≡◌, ◌∙◌, ap, sym}
+use Rattle.zone_image.specs.declared.Geometry.{Geometry}
+use Rattle.log_roll.specs.Rolling.{ended}
+use Rattle.log_roll.proofs.Blanking.{ok_then}
+use Rattle.log_roll.proofs.Closing.{told_info, ended_true, ended_false}
+use Rattle.log_roll.proofs.log_end.end_with.Goals as goal
+
+pub returns-then-gets_end-clause-image : goal.returns-then-gets_end-clause-image
+returns-then-gets_end-clause-image g c =
+    let D = g.D.ZonedDevice in
+    let dev = c.args.dev.now in
+    let m = g.met.D.ZonedDevice in
+    ok_then _ (D.tells → D.image c.write_record.new.dev ≡ ended c.args.can_end c.args.zone (D.image dev)) c.write_record.result c.write_record.ensures.image
+    (λ made told. made told ∙ sym (ended_true c.args.geometry.now (D.image dev) c.args.can_end c.args.zone c.args.info
+    ((m.told dev told c.requires.is_known).shape ∙ sym c.requires.same_geometry)
+    (told_info (D.geometry dev) (D.infos dev) (D.image dev) c.args.zone (m.possible dev c.requires.is_known) (m.told dev told c.requires.is_known) c.requires.is_zone ∙ sym c.requires.told)
+    (sym c.gets_end.ensures ∙ c.if-gets_end.true)))
+
+pub returns-clause-image : goal.returns-clause-image
+returns-clause-image g c = λ told.
+    let D = g.D.ZonedDevice in
+    let dev = c.args.dev.now in
+    let m = g.met.D.ZonedDevice in
+    sym (ended_false c.args.geometry.now (D.image dev) c.args.can_end c.args.zone c.args.info
+    ((m.told dev told c.requires.is_known).shape ∙ sym c.requires.same_geometry)
+    (told_info (D.geometry dev) (D.infos dev) (D.image dev) c.args.zone (m.possible dev c.requires.is_known) (m.told dev told c.requires.is_known) c.requires.is_zone ∙ sym c.requires.told)
+    (sym c.gets_end.ensures ∙ c.if-gets_end.false))
