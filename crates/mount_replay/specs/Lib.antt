@@ -1,1 +1,3 @@
 pub mod Neighbours
+pub mod Rules
+pub mod FrameWalk

@@ -1,0 +1,25 @@
+-- The frames of a zone, one by one.
+use Rattle.std.specs.Prelude.{ℕ, zero, suc, ◌+◌, ◌*◌, ◌-◌, ◌<◌, ◌≤◌, ◌||◌, List, [], ◌∷◌, length, take, drop, Option, Some, None, nat_lt, ◌==◌, if◌then◌else◌}
+use Rattle.std.specs.Int.{w64, from_le_bytes}
+use Rattle.record_model.specs.declared.types.Extent.{Extent}
+use Rattle.log_model.specs.Frames.{frame_blocks, frames_within}
+use Rattle.mount_replay.specs.declared.frames.Frame.{Frame}
+
+-- the frame of this length, where it fits so many blocks
+abbrev pub frame_of : ℕ → ℕ → ℕ → Option Frame
+frame_of block left len = if (len == 0) || nat_lt left (frame_blocks block len) then None else Some (record { len = len; blocks = frame_blocks block len })
+
+-- the frame that begins with the first of these blocks
+abbrev pub frame_in : ℕ → List (List ℕ) → Option Frame
+frame_in block [] = None
+frame_in block (b ∷ bs) = frame_of block (length (b ∷ bs)) (from_le_bytes w64 (take 8 b))
+
+-- a frame has a byte and a block, and not more blocks than are left
+pub record IsFrameWithin (left : ℕ) (f : Frame) : Type 0 where
+  pub some : 0 < f.len
+  pub takes : 0 < f.blocks
+  pub within : f.blocks ≤ left
+
+-- the frames in these blocks, of which the first has this address
+abbrev pub frames_from : ℕ → ℕ → List (List ℕ) → List Extent
+frames_from block at blocks = frames_within (length blocks) block at blocks
