@@ -1,0 +1,80 @@
+//! One file of the table.
+
+ghost use Rattle.std.specs.Prelude.{◌≡◌, ◌↔◌, ◌+◌, ◌<◌, IsTrue};
+ghost use Rattle.log_model.specs.FileTable.{is_among, size_of};
+
+use record_model::{Extent, FileEntry, Name};
+use std::marker::Model;
+
+/// A file: its recorded entry, its extents that aren't recorded yet, and how many of its bytes are
+/// shown to readers.
+#[derive(Debug, Drop)]
+pub(crate) struct Row {
+    entry: FileEntry,
+    unrecorded: Vec<Extent>,
+    shown: u64,
+}
+
+impl Model for Row {
+    ghost use Rattle.fs_model.specs.FsState.{TableRow};
+
+    ghost Value = { TableRow };
+
+    ghost use Rattle.extent_map.specs.Rows.{IsRow};
+
+    ghost view = { λ r. record { entry = r.entry; unrecorded = r.unrecorded.items; shown = r.shown } };
+
+    ghost invariant = { λ r. IsRow (record { entry = r.entry; unrecorded = r.unrecorded.items; shown = r.shown }) };
+}
+
+impl Row {
+    /// The file's number.
+    pub(crate) fn id(&self) -> u64
+        ensures { result ≡ self.now.entry.id }
+    {
+        self.entry.id
+    }
+
+    /// The recorded entry.
+    pub(crate) fn entry(&self) -> &FileEntry
+        ensures { result.now ≡ self.now.entry }
+    {
+        &self.entry
+    }
+
+    /// The extents that aren't recorded, in the file's order.
+    pub(crate) fn unrecorded(&self) -> &[Extent]
+        ensures { result.now ≡ self.now.unrecorded }
+    {
+        &self.unrecorded
+    }
+
+    /// How many bytes are shown to readers.
+    pub(crate) fn shown(&self) -> u64
+        ensures { result ≡ self.now.shown }
+    {
+        self.shown
+    }
+
+    /// Whether the byte of an offset is shown to readers, as only bytes of the file are.
+    pub(crate) fn shows(&self, offset: u64) -> bool
+        ensures shown { IsTrue result ↔ (offset < self.now.shown) }
+        ensures within { IsTrue result → offset < size_of self.now.entry.extents + size_of self.now.unrecorded }
+    {
+        offset < self.shown
+    }
+
+    /// Whether the file has this name.
+    pub(crate) fn has_name(&self, name: &Name) -> bool
+        ensures { result ≡ is_among self.now.entry.names name.now }
+    {
+        is_among(self.entry.names.items(), name)
+    }
+}
+
+/// Whether a name is one of these.
+pub(crate) fn is_among(names: &[Name], name: &Name) -> bool
+    ensures { result ≡ is_among names.now name.now }
+{
+    names.iter().any(|other| other.items() == name.items())
+}
