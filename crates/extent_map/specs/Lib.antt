@@ -1,3 +1,4 @@
 pub mod Lookups
+pub mod Records
 pub mod Rows
 pub mod TableState

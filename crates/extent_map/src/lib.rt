@@ -1,8 +1,10 @@
 //! The table of files in memory: entries as they are recorded, with what isn't recorded yet.
 #![tactic(auto)]
 
+mod copies;
 mod locate;
 mod lookups;
+mod records;
 mod row;
 mod table;
 

@@ -1,9 +1,11 @@
 //! One file of the table.
 
-ghost use Rattle.std.specs.Prelude.{◌≡◌, ◌↔◌, ◌+◌, ◌<◌, IsTrue};
+ghost use Rattle.std.specs.Prelude.{◌≡◌, ◌↔◌, ◌+◌, ◌<◌, IsTrue, IfOk};
 ghost use Rattle.log_model.specs.FileTable.{is_among, size_of};
 
+use crate::copies::{copy_entry, size_of};
 use record_model::{Extent, FileEntry, Name};
+use std::alloc::{AllocError, Global};
 use std::marker::Model;
 
 /// A file: its recorded entry, its extents that aren't recorded yet, and how many of its bytes are
@@ -54,6 +56,24 @@ impl Row {
         ensures { result ≡ self.now.shown }
     {
         self.shown
+    }
+
+    /// The sum of the lengths of all extents of the file.
+    pub(crate) fn size(&self) -> u64
+        ensures { result ≡ self.now.entry.size + size_of self.now.unrecorded }
+    {
+        self.entry.size + size_of(&self.unrecorded)
+    }
+
+    /// The same file.
+    pub(crate) fn copy(&self, alloc: Global) -> Result<Row, AllocError>
+        ensures { IfOk result (λ copy. copy ≡ self.now) }
+    {
+        Ok(Row {
+            entry: copy_entry(alloc, &self.entry)?,
+            unrecorded: Vec::from_slice(alloc, &self.unrecorded)?,
+            shown: self.shown,
+        })
     }
 
     /// Whether the byte of an offset is shown to readers, as only bytes of the file are.
