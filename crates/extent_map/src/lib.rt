@@ -2,6 +2,7 @@
 #![tactic(auto)]
 
 mod copies;
+mod lengths;
 mod locate;
 mod lookups;
 mod records;
