@@ -1,2 +1,4 @@
 pub mod LengthLaws
+pub mod ApplyLaws
 pub mod LookupLaws
+pub mod PlaceLaws

@@ -1,4 +1,5 @@
+pub mod Applying
 pub mod Lookups
 pub mod Records
-pub mod Rows
+pub mod Sound
 pub mod TableState

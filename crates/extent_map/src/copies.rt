@@ -1,7 +1,7 @@
 //! Copies of what entries hold.
 
-ghost use Rattle.std.specs.Prelude.{◌≡◌, ◌^◌, ◌<◌, IfOk};
-ghost use Rattle.log_model.specs.FileTable.{size_of};
+ghost use Rattle.std.specs.Prelude.{◌≡◌, ◌^◌, ◌<◌, IfOk, Some};
+ghost use Rattle.log_model.specs.FileTable.{grown, size_of};
 
 use record_model::{Extent, Extents, FileEntry, Name, Names};
 use std::alloc::{AllocError, Global};
@@ -60,6 +60,19 @@ pub(crate) fn copy_with(
         extents: copy_extents(alloc, extents)?,
         names: copy_names(alloc, &entry.names)?,
     })
+}
+
+/// The entry with the extents of the file in front of its own.
+pub(crate) fn copy_grown(
+    alloc: Global,
+    file: &FileEntry,
+    entry: &FileEntry,
+) -> Result<FileEntry, AllocError>
+    ensures { IfOk result (λ copy. copy ≡ grown (Some file.now) entry.now) }
+{
+    let mut extents = Vec::from_slice(alloc, file.extents.items())?;
+    extents.extend_from_slice(entry.extents.items())?;
+    copy_with(alloc, entry, entry.size, &extents)
 }
 
 /// The sum of the lengths.

@@ -2,6 +2,8 @@
 
 ghost use Rattle.std.specs.Prelude.{◌≡◌, ◌↔◌, ◌+◌, ◌<◌, IsTrue, IfOk};
 ghost use Rattle.log_model.specs.FileTable.{is_among, size_of};
+ghost use Rattle.fs_model.specs.FsState.{mounted_row};
+ghost use Rattle.extent_map.specs.Sound.{IsSound};
 
 use crate::copies::{copy_entry, size_of};
 use record_model::{Extent, FileEntry, Name};
@@ -22,7 +24,7 @@ impl Model for Row {
 
     ghost Value = { TableRow };
 
-    ghost use Rattle.extent_map.specs.Rows.{IsRow};
+    ghost use Rattle.extent_map.specs.Sound.{IsRow};
 
     ghost view = { λ r. record { entry = r.entry; unrecorded = r.unrecorded.items; shown = r.shown } };
 
@@ -30,6 +32,19 @@ impl Model for Row {
 }
 
 impl Row {
+    /// The row of an entry of which everything is recorded and shown.
+    pub(crate) fn new(alloc: Global, entry: FileEntry) -> Row
+        requires { IsSound entry }
+        ensures { result ≡ mounted_row entry }
+    {
+        let shown = entry.size;
+        Row {
+            entry,
+            unrecorded: Vec::new(alloc),
+            shown,
+        }
+    }
+
     /// The file's number.
     pub(crate) fn id(&self) -> u64
         ensures { result ≡ self.now.entry.id }
@@ -39,7 +54,8 @@ impl Row {
 
     /// The recorded entry.
     pub(crate) fn entry(&self) -> &FileEntry
-        ensures { result.now ≡ self.now.entry }
+        ensures value { result.now ≡ self.now.entry }
+        ensures sound { IsSound result.now }
     {
         &self.entry
     }
