@@ -1,12 +1,15 @@
 -- Rows of a table in which everything is recorded.
-use Rattle.std.specs.Prelude.{◌≡◌, ℕ, suc, ◌+◌, ◌-◌, ◌<◌, Bool, true, false, not, cond, List, [], ◌∷◌, length, max, nat_lt, ◌==◌, Some, None, option_map, Result, Ok, Err, refl}
+use Rattle.std.specs.Prelude.{◌≤◌, ◌≡◌, ℕ, suc, ◌+◌, ◌-◌, ◌<◌, Bool, true, false, not, cond, List, [], ◌∷◌, length, max, nat_lt, ◌==◌, Some, None, option_map, Result, Ok, Err, refl}
 use Rattle.std.proofs.Common.{drop, get_or, ap, sym, ◌∙◌, arith, add-one, drop-cons}
-use Rattle.std.proofs.lemmas.Bool.{ltb-true, ltb-false, eqb-true, and_parts}
+use Rattle.std.proofs.lemmas.Bool.{lt-ltb, ltb-true, ltb-false, eqb-true, and_parts}
 use Rattle.std.specs.List.{AllByRecursion, list_all}
-use Rattle.record_model.specs.Grammar.{IsWritable}
+use Rattle.record_model.specs.Grammar.{InGrammar, IsWritable}
+use Rattle.record_model.specs.declared.types.Record.{Record}
 use Rattle.record_model.specs.declared.types.FileEntry.{FileEntry}
 use Rattle.record_model.specs.declared.types.Record.TheVariants.{Snapshot, Update, Deletion, End, Replace}
-use Rattle.log_model.specs.FileTable.{Table, file_of, with_entry, has_right_size, grown, sorted, size_of, after_record, unless_broken, set_entry, delete_from, take_names, is_among, repeats_id, repeats_name}
+use Rattle.log_model.specs.FileTable.{Table, file_of, with_entry, has_right_size, grown, sorted, size_of, after_record, unless_broken, set_entry, delete_from, take_names, is_among, repeats_id, repeats_name, is_named}
+use Rattle.log_model.specs.TableLaws.{IsTable, IsNamedRecord}
+use Rattle.log_model.proofs.TableKept.{record_keeps_table}
 use Rattle.log_model.specs.declared.selection.DamageWhy.TheVariants as why
 use Rattle.log_model.specs.declared.selection.DamageWhy.{DamageWhy}
 use Rattle.fs_model.specs.FsState.{TableRow, mounted_row, row_of, greatest_id}
@@ -144,3 +147,28 @@ pub delete_known : (id : ℕ) (name : List ℕ) (f : FileEntry) (es : Table) →
     → after_record (Deletion id name) es ≡ unless_broken (not (is_among f.names name)) 4 (take_names (name ∷ []) es)
 unfolding after_record
 delete_known id name f es some = ap (λ there. delete_from there name es) some
+
+-- ---- what a record keeps
+
+-- no id is above the greatest
+pub below_greatest : (rows : List TableRow) (greatest : ℕ) → greatest_id (recorded_of rows) ≤ greatest → AllByRecursion (λ r. r.entry.id ≤ greatest) rows
+below_greatest [] greatest h = tt
+below_greatest (r ∷ rs) greatest h =
+    let first = greatest_first r.entry (recorded_of rs) in (omega arith, below_greatest rs greatest (omega arith))
+
+-- entries that can be written have names
+named_entries : (files : Table) → AllByRecursion IsWritable files → AllByRecursion (λ e. is_named e ≡ true) files
+named_entries [] h = tt
+named_entries (e ∷ es) h = (lt-ltb 0 (length e.names) h.0.named, named_entries es h.1)
+
+-- so does each entry of a record in the grammar
+pub named_record : (r : Record) → InGrammar r → IsNamedRecord r
+named_record (Snapshot files) h = named_entries files h
+named_record (Update e) h = lt-ltb 0 (length e.names) h.named
+named_record (Deletion id name) h = tt
+named_record End h = tt
+named_record (Replace e) h = lt-ltb 0 (length e.names) h.named
+
+-- a record makes a table of a table
+pub keeps_table : (r : Record) (old new : List TableRow) → InGrammar r → IsTable (recorded_of old) → IsMade (after_record r (recorded_of old)) new → IsTable (recorded_of new)
+keeps_table r old new grammar table made = record_keeps_table (recorded_of old) (recorded_of new) r table (named_record r grammar) made.made

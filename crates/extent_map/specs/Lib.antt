@@ -1,4 +1,5 @@
 pub mod Applying
+pub mod Changes
 pub mod Lookups
 pub mod Records
 pub mod Sound

@@ -1,6 +1,7 @@
 //! Records applied to the table.
 
 ghost use Rattle.std.specs.Prelude.{◌≡◌, ◌≤◌, ◌-◌, ◌^◌, not, [], All, Some, IfOk, OnOk, IfErr, OnErr};
+ghost use Rattle.std.specs.List.{AllByRecursion};
 ghost use Rattle.record_model.specs.Grammar.{InGrammar, IsWritable};
 ghost use Rattle.record_model.specs.declared.types.Record.TheVariants as records;
 ghost use Rattle.log_model.specs.FileTable.{
@@ -55,6 +56,7 @@ impl FileTable {
 fn greatest_id(rows: &[Row]) -> u64
     ensures greatest { result ≡ greatest_id (recorded_of rows.now) }
     ensures limit { result ≤ 2 ^ 64 - 2 }
+    ensures above { AllByRecursion (λ r. r.entry.id ≤ result) rows.now }
 {
     let mut greatest: u64 = 0;
     for row in rows {

@@ -15,14 +15,13 @@ pub struct FileTable {
 }
 
 impl Model for FileTable {
-    ghost use Rattle.std.specs.Prelude.{◌≤◌, ◌-◌, ◌^◌};
-    ghost use Rattle.extent_map.specs.TableState.{TableState};
+    ghost use Rattle.extent_map.specs.TableState.{IsTableState, TableState};
 
     ghost Value = { TableState };
 
     ghost view = { λ t. record { rows = t.rows.items; greatest = t.greatest } };
 
-    ghost invariant = { λ t. t.greatest ≤ 2 ^ 64 - 2 };
+    ghost invariant = { λ t. IsTableState t.rows.items t.greatest };
 }
 
 impl FileTable {
