@@ -1,3 +1,4 @@
+pub mod ChangeLaws
 pub mod LengthLaws
 pub mod ApplyLaws
 pub mod LookupLaws

@@ -9,6 +9,10 @@ use Rattle.fs_model.specs.FileSteps.{commit_time, committed}
 abbrev pub recorded_row : ℕ → TableRow → TableRow
 recorded_row active r = record { entry = record (working_entry r) { active = active }; unrecorded = []; shown = r.entry.size + size_of r.unrecorded }
 
+-- all extents of the file recorded and shown
+abbrev pub joined_row : TableRow → TableRow
+joined_row r = record { entry = working_entry r; unrecorded = []; shown = r.entry.size + size_of r.unrecorded }
+
 -- the row at this time
 abbrev pub at_time : ℕ → TableRow → TableRow
 at_time time r = record r { entry = record (r.entry) { time = time } }

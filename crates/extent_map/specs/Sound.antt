@@ -1,5 +1,5 @@
 -- Entries that a table may hold.
-use Rattle.std.specs.Prelude.{◌≡◌, ◌+◌, ◌-◌, ◌^◌, ◌<◌, ◌≤◌, [], length}
+use Rattle.std.specs.Prelude.{ℕ, ◌≡◌, ◌+◌, ◌-◌, ◌^◌, ◌<◌, ◌≤◌, [], length}
 use Rattle.record_model.specs.declared.types.FileEntry.{FileEntry}
 use Rattle.log_model.specs.FileTable.{size_of}
 use Rattle.fs_model.specs.FsState.{TableRow}
@@ -16,3 +16,7 @@ pub record IsRow (r : TableRow) : Type 0 where
   pub whole : r.entry.size + size_of r.unrecorded < 2 ^ 64
   pub shown : r.shown ≤ r.entry.size + size_of r.unrecorded
   pub settled : r.unrecorded ≡ [] → r.shown ≡ r.entry.size
+
+-- there is room for all extents, where some aren't recorded
+abbrev pub HasRoom : ℕ → ℕ → ℕ → Type 0
+HasRoom recorded unrecorded room = 0 < unrecorded → recorded + unrecorded ≤ room

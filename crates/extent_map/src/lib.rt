@@ -2,8 +2,10 @@
 #![tactic(auto)]
 
 mod apply;
+mod change;
 mod copies;
 mod error;
+mod extents;
 mod lengths;
 mod locate;
 mod lookups;

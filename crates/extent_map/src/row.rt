@@ -1,14 +1,18 @@
 //! One file of the table.
 
-ghost use Rattle.std.specs.Prelude.{◌≡◌, ◌↔◌, ◌+◌, ◌<◌, IsTrue, IfOk};
+ghost use Rattle.std.specs.Prelude.{◌≡◌, ◌↔◌, ◌+◌, ◌<◌, length, IsTrue, IfOk};
 ghost use Rattle.log_model.specs.FileTable.{is_among, size_of};
 ghost use Rattle.fs_model.specs.FsState.{mounted_row};
+ghost use Rattle.fs_model.specs.FileSteps.{shown_row};
+ghost use Rattle.extent_map.specs.Changes.{recorded_row, joined_row};
 ghost use Rattle.extent_map.specs.Sound.{IsSound};
 
 use crate::copies::{copy_entry, size_of};
+use crate::extents::{joined, room_for};
 use record_model::{Extent, FileEntry, Name};
 use std::alloc::{AllocError, Global};
 use std::marker::Model;
+use std::mem;
 
 /// A file: its recorded entry, its extents that aren't recorded yet, and how many of its bytes are
 /// shown to readers.
@@ -17,6 +21,8 @@ pub(crate) struct Row {
     entry: FileEntry,
     unrecorded: Vec<Extent>,
     shown: u64,
+    /// Room for all extents, where some aren't recorded yet.
+    room: Vec<Extent>,
 }
 
 impl Model for Row {
@@ -24,11 +30,14 @@ impl Model for Row {
 
     ghost Value = { TableRow };
 
-    ghost use Rattle.extent_map.specs.Sound.{IsRow};
+    ghost use Rattle.std.specs.Prelude.{length, vec_capacity};
+    ghost use Rattle.extent_map.specs.Sound.{HasRoom, IsRow};
 
     ghost view = { λ r. record { entry = r.entry; unrecorded = r.unrecorded.items; shown = r.shown } };
 
-    ghost invariant = { λ r. IsRow (record { entry = r.entry; unrecorded = r.unrecorded.items; shown = r.shown }) };
+    ghost invariant = { λ r.
+        IsRow (record { entry = r.entry; unrecorded = r.unrecorded.items; shown = r.shown })
+        × HasRoom (length r.entry.extents) (length r.unrecorded.items) (vec_capacity r.room) };
 }
 
 impl Row {
@@ -42,6 +51,7 @@ impl Row {
             entry,
             unrecorded: Vec::new(alloc),
             shown,
+            room: Vec::new(alloc),
         }
     }
 
@@ -89,7 +99,39 @@ impl Row {
             entry: copy_entry(alloc, &self.entry)?,
             unrecorded: Vec::from_slice(alloc, &self.unrecorded)?,
             shown: self.shown,
+            room: room_for(alloc, self.entry.extents.items(), &self.unrecorded)?,
         })
+    }
+
+    /// Shows all bytes of the file, and sets its time.
+    pub(crate) fn show(&mut self, time: u64)
+        ensures { self.new ≡ shown_row time self.old }
+    {
+        self.shown = self.entry.size + size_of(&self.unrecorded);
+        self.entry.time = time;
+    }
+
+    /// Takes all extents as recorded, and all bytes as shown.
+    pub(crate) fn record(&mut self, active: u64)
+        ensures { self.new ≡ recorded_row active self.old }
+    {
+        if !self.unrecorded.is_empty() {
+            self.join();
+        }
+        self.entry.active = active;
+    }
+
+    /// Takes all extents as recorded, and all bytes as shown.
+    fn join(&mut self)
+        requires { 0 < length self.old.unrecorded }
+        ensures { self.new ≡ joined_row self.old }
+    {
+        let alloc = *self.unrecorded.allocator();
+        let room = mem::replace(&mut self.room, Vec::new(alloc));
+        self.entry.size += size_of(&self.unrecorded);
+        self.entry.extents = joined(room, self.entry.extents.items(), &self.unrecorded);
+        self.unrecorded.clear();
+        self.shown = self.entry.size;
     }
 
     /// Whether the byte of an offset is shown to readers, as only bytes of the file are.
