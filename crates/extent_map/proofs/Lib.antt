@@ -1,0 +1,5 @@
+pub mod ChangeLaws
+pub mod LengthLaws
+pub mod ApplyLaws
+pub mod LookupLaws
+pub mod PlaceLaws

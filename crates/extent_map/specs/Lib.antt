@@ -1,0 +1,6 @@
+pub mod Applying
+pub mod Changes
+pub mod Lookups
+pub mod Records
+pub mod Sound
+pub mod TableState

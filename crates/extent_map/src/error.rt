@@ -1,0 +1,26 @@
+// Why a record isn't applied.
+ghost use Rattle.std.specs.Prelude.{◌≡◌};
+ghost use Rattle.extent_map.specs.declared.error.ApplyError.TheVariants.{NoMemory};
+
+use std::alloc::AllocError;
+use std::fmt;
+use thiserror::Error;
+
+/// Why a record isn't applied to a table.
+#[derive(Clone, Copy, Debug, PartialEq, Eq, Error)]
+pub enum ApplyError {
+    /// The record breaks the rule of this number, from 3 to 7, and none of a lower number.
+    #[error("rule {0} is broken")]
+    Rule(u8),
+    /// Memory is wanting.
+    #[error("out of memory")]
+    NoMemory,
+}
+
+impl From<AllocError> for ApplyError {
+    ghost from_gives = { λ _ e. e ≡ NoMemory };
+
+    fn from(_e: AllocError) -> ApplyError {
+        ApplyError::NoMemory
+    }
+}
