@@ -5,11 +5,11 @@ use Rattle.command_model.specs.ReportTexts.{list_text}
 use Rattle.zenfs_cmd.specs.declared.refusal.Refusal.{Refusal}
 use Rattle.zenfs_cmd.specs.declared.refusal.Refusal.TheVariants.{Words, DeviceFault, OutputFault, NoMemory, NotAnImage, OtherImage}
 use Rattle.fs_report.specs.Written.{AddsFront}
-use Rattle.zenfs_cmd.specs.SmallImage.{small_files}
+use Rattle.zenfs_cmd.specs.SmallTables.{small_table}
 
 -- the list of an image of this form
 abbrev pub listed_text : Image → Option (List ℕ)
-listed_text i = option_map (λ files. list_text files None) (small_files i)
+listed_text i = option_map (λ es. list_text es None) (small_table i)
 
 -- a refusal has its reason: wrong words, a fault of the device or of the output, no image, or one of another form; want of memory needs none
 abbrev pub HasReason : (words device output absent other : Type 0) → Refusal → Type 0

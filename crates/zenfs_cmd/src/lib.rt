@@ -4,10 +4,12 @@
 mod bare;
 mod command;
 mod list;
+mod log;
+mod log_table;
 mod refusal;
 mod repeats;
-mod small_image;
-mod small_log;
+mod small_table;
+mod table;
 #[cfg(test)]
 mod tests;
 mod words;

@@ -5,10 +5,10 @@ ghost use Rattle.zone_image.specs.Image.{IsCrash};
 ghost use Rattle.zone_image.specs.Moments.{LeavesOnly};
 ghost use Rattle.fs_report.specs.Written.{AddsFront};
 ghost use Rattle.zenfs_cmd.specs.Listing.{HasReason, IsPrinted, IsPrintedInPart, IsSilent, listed_text};
-ghost use Rattle.zenfs_cmd.specs.SmallImage.{small_files};
+ghost use Rattle.zenfs_cmd.specs.SmallTables.{small_table};
 
 use crate::refusal::Refusal;
-use crate::small_image::{FilesError, small_files};
+use crate::small_table::{TableError, small_table};
 use fs_report::{Sink, list_text, write_all};
 use record_model::Payload;
 use std::alloc::Global;
@@ -53,13 +53,13 @@ fn text_of<D: ZonedDevice>(alloc: Global, dev: &mut D) -> Result<Payload, Refusa
         Err(ProbeError::NotAnImage) => return Err(Refusal::NotAnImage),
         Err(ProbeError::NoMemory) => return Err(Refusal::NoMemory),
     };
-    let files = match small_files(alloc, dev, &geometry) {
-        Ok(files) => files,
-        Err(FilesError::DevFault) => return Err(Refusal::DeviceFault),
-        Err(FilesError::OtherImage) => return Err(Refusal::OtherImage),
-        Err(FilesError::NoMemory) => return Err(Refusal::NoMemory),
+    let table = match small_table(alloc, dev, &geometry) {
+        Ok(table) => table,
+        Err(TableError::DevFault) => return Err(Refusal::DeviceFault),
+        Err(TableError::OtherImage) => return Err(Refusal::OtherImage),
+        Err(TableError::NoMemory) => return Err(Refusal::NoMemory),
     };
-    match list_text(alloc, files.items()) {
+    match list_text(alloc, &table) {
         Ok(text) => Ok(text),
         Err(_) => Err(Refusal::NoMemory),
     }

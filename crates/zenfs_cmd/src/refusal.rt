@@ -17,7 +17,7 @@ pub enum Refusal {
     NoMemory,
     /// The file is no image of a zoned device.
     NotAnImage,
-    /// The image holds more than one log with one snapshot of files without bytes.
+    /// The image isn't one log of a snapshot of files without bytes and of deletions.
     OtherImage,
 }
 
