@@ -4,3 +4,8 @@ pub mod Payloads
 pub mod Apart
 pub mod LogTables
 pub mod SmallImageLaws
+pub mod DurableRecords
+pub mod DeletionPayloads
+pub mod DeletionTables
+pub mod DeletionCrashes
+pub mod ReasonLaws

@@ -123,7 +123,7 @@ behind_superblock true bare rest t u h = h
 behind_superblock false bare rest t u h = refl
 
 -- the payloads of a log
-payloads_table : (g : Geometry) (ps : List (ℕ × List ℕ)) → table_of_payloads g ps ≡ table_of_log g (bytes_of ps)
+pub payloads_table : (g : Geometry) (ps : List (ℕ × List ℕ)) → table_of_payloads g ps ≡ table_of_log g (bytes_of ps)
 unfolding replay_log
 payloads_table g [] = refl
 payloads_table g (first ∷ []) = refl

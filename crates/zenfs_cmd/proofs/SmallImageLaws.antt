@@ -1,10 +1,12 @@
 -- What a reader of a small image learns, step by step.
-use Rattle.std.proofs.Common.{◌≡◌, ℕ, ◌<◌, true, false, List, ap, sym, ◌∙◌, arith}
+use Rattle.std.proofs.Common.{◌≡◌, ℕ, ◌<◌, ◌≤◌, length, true, false, List, ap, sym, ◌∙◌, arith}
 use Rattle.std.specs.Prelude.{IsTrue, cond, nat_eq, Option, Some, None, option_map}
 use Rattle.zone_image.specs.declared.Geometry.{Geometry}
 use Rattle.zone_image.specs.declared.ZoneInfo.{ZoneInfo}
 use Rattle.zone_image.specs.Image.{Image, is_valid, zone_at}
-use Rattle.zone_image.specs.Infos.{info_at, IsPossible, IsImage}
+use Rattle.zone_image.specs.Infos.{info_at, info_of, IsPossible, IsImage}
+use Rattle.zone_image.proofs.InfoLaws.{info_at_is}
+use Rattle.std.proofs.lemmas.List.{length-map}
 use Rattle.log_model.specs.LogScan.{scan}
 use Rattle.std.proofs.lemmas.Grind.{common_steps}
 use Rattle.meta_log.proofs.Reading.{written_is}
@@ -44,3 +46,13 @@ some_log f read log v is some = sym is ∙ ap (option_map f) some
 -- the metadata zones are there
 pub zone_there : (g : Geometry) (zone : ℕ) → IsTrue (is_valid g) → zone < 3 → zone < g.zones
 zone_there g zone valid within = grind (arith, common_steps)
+
+-- the number and the seal of zone 0
+pub first_info : (g : Geometry) (infos : List ZoneInfo) (i : Image) → IsPossible g infos → IsImage g infos i → info_at infos 0 ≡ info_of (zone_at i 0)
+first_info g infos i possible image =
+    let count : length i.zones ≡ g.zones = sym (length-map i.zones info_of) ∙ (ap (λ (all : List ZoneInfo). length all) image.told ∙ possible.count) in
+    ap (λ all. info_at all 0) (sym image.told) ∙ info_at_is i 0 (omega (arith, count, zone_there g 0 possible.valid (omega arith)))
+
+-- blocks have 512 bytes at least
+pub block_large : (g : Geometry) → IsTrue (is_valid g) → 512 ≤ g.block
+block_large g valid = grind (arith, common_steps)

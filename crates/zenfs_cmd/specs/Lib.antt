@@ -4,5 +4,6 @@ pub mod SmallImage
 pub mod SmallTables
 pub mod Logs
 pub mod Deletion
+pub mod Reasons
 pub mod Refusals
 pub mod Listing

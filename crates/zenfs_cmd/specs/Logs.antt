@@ -1,6 +1,6 @@
 -- A log of payloads, as it is read.
-use Rattle.std.specs.Prelude.{ℕ, ◌^◌, ◌<◌, ◌==◌, ◌&&◌, Bool, List, [], ◌∷◌, length, map, Option, Some, None, Result, Ok, if◌then◌else◌}
-use Rattle.std.specs.List.{list_all}
+use Rattle.std.specs.Prelude.{ℕ, ◌-◌, ◌^◌, ◌<◌, ◌==◌, ◌&&◌, Bool, List, [], ◌∷◌, length, map, Option, Some, None, Result, Ok, if◌then◌else◌}
+use Rattle.std.specs.List.{AllByRecursion, list_all}
 use Rattle.std.specs.Result.{result_ok}
 use Rattle.zone_image.specs.declared.Geometry.{Geometry}
 use Rattle.record_model.specs.declared.types.FileEntry.{FileEntry}
@@ -12,6 +12,10 @@ use Rattle.log_model.specs.FileTable.{Table, after_record, sorted}
 use Rattle.log_model.specs.LogScan.{Scan, is_clean}
 use Rattle.command_model.specs.Options.{◌>>=◌}
 use Rattle.zenfs_cmd.specs.SmallImage.{are_apart, is_bare, is_superblock}
+
+-- each id is one that a record can have
+abbrev pub HaveIds : List FileEntry → Type 0
+HaveIds files = AllByRecursion (λ e. e.id < 2 ^ 64 - 1) files
 
 -- the payloads of a log that ends clean
 abbrev pub clean_payloads : Scan → Option (List (List ℕ))

@@ -3,9 +3,14 @@
 
 mod bare;
 mod command;
+mod delete;
+#[cfg(test)]
+mod delete_tests;
+mod durable;
 mod list;
 mod log;
 mod log_table;
+mod opened;
 mod refusal;
 mod repeats;
 mod small_table;
@@ -14,7 +19,7 @@ mod table;
 mod tests;
 mod words;
 
-pub use command::{refuse, run};
+pub use command::run;
 pub use fs_report::{MemSink, OutSink, Sink, SinkFault, Status};
-pub use refusal::Refusal;
+pub use refusal::{Refusal, refuse};
 pub use words::image_path;

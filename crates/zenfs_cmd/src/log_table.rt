@@ -6,7 +6,7 @@ ghost use Rattle.record_model.specs.Grammar.{IsWritable};
 ghost use Rattle.log_model.specs.FileTable.{delete_from, file_of};
 ghost use Rattle.record_model.specs.Decoding.{record_of};
 ghost use Rattle.zenfs_cmd.specs.SmallImage.{is_superblock};
-ghost use Rattle.zenfs_cmd.specs.Logs.{IsShortPayload, after_deletion, after_deletions, table_of_files, table_of_log, table_of_snapshot};
+ghost use Rattle.zenfs_cmd.specs.Logs.{HaveIds, IsShortPayload, after_deletion, after_deletions, table_of_files, table_of_log, table_of_snapshot};
 
 use crate::bare::{are_apart, are_bare};
 use crate::table::{file_of, has_name, sorted, without_name};
@@ -35,6 +35,7 @@ pub(crate) fn table_of_log(
     requires { All IsShortPayload log.now }
     ensures table { IfOk result (λ table. table_of_log geometry.now log.now ≡ Some table.items) }
     ensures other { IsErrOf result LogTableError.OtherForm → table_of_log geometry.now log.now ≡ None }
+    ensures ids { IfOk result (λ table. HaveIds table.items) }
 {
     let [superblock, snapshot, deletions @ ..] = log else {
         return Err(LogTableError::OtherForm);
@@ -66,6 +67,7 @@ fn table_of_snapshot(alloc: Global, payload: &[u8]) -> Result<Vec<FileEntry>, Lo
     requires { length payload.now < 2 ^ 32 }
     ensures table { IfOk result (λ table. table_of_snapshot (record_of payload.now) ≡ Some table.items) }
     ensures other { IsErrOf result LogTableError.OtherForm → table_of_snapshot (record_of payload.now) ≡ None }
+    ensures ids { IfOk result (λ table. HaveIds table.items) }
 {
     match decode(alloc, payload) {
         Ok(Record::Snapshot(files)) => table_of_files(alloc, files.items()),
@@ -80,6 +82,7 @@ fn table_of_files(alloc: Global, files: &[FileEntry]) -> Result<Vec<FileEntry>, 
     requires { AllByRecursion IsWritable files.now }
     ensures table { IfOk result (λ table. table_of_files files.now ≡ Some table.items) }
     ensures other { IsErrOf result LogTableError.OtherForm → table_of_files files.now ≡ None }
+    ensures ids { IfOk result (λ table. HaveIds table.items) }
 {
     if !are_bare(files) {
         return Err(LogTableError::OtherForm);
@@ -104,6 +107,7 @@ fn after_deletions(
     requires { All IsShortPayload payloads.now }
     ensures table { IfOk result (λ left. after_deletions payloads.now table.items ≡ Some left.items) }
     ensures other { IsErrOf result LogTableError.OtherForm → after_deletions payloads.now table.items ≡ None }
+    ensures ids { HaveIds table.items → IfOk result (λ left. HaveIds left.items) }
 {
     for payload in payloads {
         table = after_payload(alloc, &table, payload.items())?;
@@ -121,6 +125,7 @@ fn after_payload(
     requires { length payload.now < 2 ^ 32 }
     ensures table { IfOk result (λ left. after_deletion (record_of payload.now) table.now ≡ Some left.items) }
     ensures other { IsErrOf result LogTableError.OtherForm → after_deletion (record_of payload.now) table.now ≡ None }
+    ensures ids { HaveIds table.now → IfOk result (λ left. HaveIds left.items) }
 {
     match decode(alloc, payload) {
         Ok(Record::Deletion { id, name }) => after_deletion(alloc, table, id, name.items()),
@@ -139,6 +144,7 @@ fn after_deletion(
 ) -> Result<Vec<FileEntry>, LogTableError>
     ensures table { IfOk result (λ left. result_ok (delete_from (file_of id table.now) name.now table.now) ≡ Some left.items) }
     ensures other { IsErrOf result LogTableError.OtherForm → result_ok (delete_from (file_of id table.now) name.now table.now) ≡ None }
+    ensures ids { HaveIds table.now → IfOk result (λ left. HaveIds left.items) }
 {
     match file_of(table, id) {
         Some(file) if has_name(file, name) => {}

@@ -2,7 +2,7 @@
 ghost use Rattle.std.specs.Prelude.{◌≡◌, ◌<◌, All, IfOk, IsErr, IsErrOf, Some, None};
 ghost use Rattle.zone_image.specs.Counts.{HasCause};
 ghost use Rattle.zone_image.specs.Reads.{OnlyReads};
-ghost use Rattle.zenfs_cmd.specs.Logs.{IsShortPayload, table_of_log};
+ghost use Rattle.zenfs_cmd.specs.Logs.{HaveIds, IsShortPayload, table_of_log};
 ghost use Rattle.zenfs_cmd.specs.SmallImage.{is_empty_zone, other_zones_empty};
 ghost use Rattle.zenfs_cmd.specs.SmallTables.{small_table};
 
@@ -35,6 +35,7 @@ pub(crate) fn small_table<D: ZonedDevice>(
     requires is_known { D.known dev.old }
     requires same_geometry { geometry.now ≡ D.geometry dev.old }
     ensures table { IfOk result (λ table. D.tells → small_table (D.image dev.old) ≡ Some table.items) }
+    ensures ids { IfOk result (λ table. HaveIds table.items) }
     ensures other { IsErrOf result TableError.OtherImage → D.tells → small_table (D.image dev.old) ≡ None }
     ensures device { OnlyReads D.known D.geometry D.infos D.tells D.image D.tick D.since D.failed_changes dev.old dev.new }
     ensures cause { HasCause (D.faults dev.old) (D.faults dev.new) (IsErrOf result TableError.DevFault) }
@@ -60,6 +61,7 @@ fn read_table(
 ) -> Result<Vec<FileEntry>, TableError>
     requires { All IsShortPayload log.now }
     ensures table { IfOk result (λ table. table_of_log geometry.now log.now ≡ Some table.items) }
+    ensures ids { IfOk result (λ table. HaveIds table.items) }
     ensures other { IsErrOf result TableError.OtherImage → table_of_log geometry.now log.now ≡ None }
     ensures device { IsErrOf result TableError.DevFault → ⊥ }
 {
