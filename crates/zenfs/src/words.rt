@@ -7,7 +7,7 @@ use std::io::ErrorKind;
 use zenfs_cmd::Refusal;
 
 // The words behind the program's name. A word that isn't text makes a bad command line.
-pub(crate) fn words_of(rt: HostRuntime) -> Result<Vec<String>, Refusal>
+pub(crate) fn words_of(rt: HostRuntime) -> Result<Vec<String>, Refusal<'static>>
     ensures { IfErr result (λ refusal. (refusal ≡ Refusal.Words) ⊎ (refusal ≡ Refusal.NoMemory)) }
 {
     let mut args = match env::args(&rt) {

@@ -1,2 +1,11 @@
 pub mod RepeatLaws
+pub mod TableLaws
+pub mod Payloads
+pub mod Apart
+pub mod LogTables
 pub mod SmallImageLaws
+pub mod DurableRecords
+pub mod DeletionPayloads
+pub mod DeletionTables
+pub mod DeletionCrashes
+pub mod ReasonLaws

@@ -1,6 +1,9 @@
 pub mod Words
 pub mod Repeats
 pub mod SmallImage
+pub mod SmallTables
+pub mod Logs
+pub mod Deletion
+pub mod Reasons
 pub mod Refusals
-pub mod SmallLogs
 pub mod Listing

@@ -1,24 +1,15 @@
--- What `list` prints, and why it may not.
+-- What `list` prints.
 use Rattle.std.specs.Prelude.{◌≡◌, ⊤, ℕ, List, ◌++◌, Option, None, IsSome, IfSome, option_map}
 use Rattle.zone_image.specs.Image.{Image}
 use Rattle.command_model.specs.ReportTexts.{list_text}
 use Rattle.zenfs_cmd.specs.declared.refusal.Refusal.{Refusal}
-use Rattle.zenfs_cmd.specs.declared.refusal.Refusal.TheVariants.{Words, DeviceFault, OutputFault, NoMemory, NotAnImage, OtherImage}
+use Rattle.zenfs_cmd.specs.declared.refusal.Refusal.TheVariants.{OutputFault}
 use Rattle.fs_report.specs.Written.{AddsFront}
-use Rattle.zenfs_cmd.specs.SmallImage.{small_files}
+use Rattle.zenfs_cmd.specs.SmallTables.{small_table}
 
 -- the list of an image of this form
 abbrev pub listed_text : Image → Option (List ℕ)
-listed_text i = option_map (λ files. list_text files None) (small_files i)
-
--- a refusal has its reason: wrong words, a fault of the device or of the output, no image, or one of another form; want of memory needs none
-abbrev pub HasReason : (words device output absent other : Type 0) → Refusal → Type 0
-HasReason words device output absent other Words = words
-HasReason words device output absent other DeviceFault = device
-HasReason words device output absent other OutputFault = output
-HasReason words device output absent other NoMemory = ⊤
-HasReason words device output absent other NotAnImage = absent
-HasReason words device output absent other OtherImage = other
+listed_text i = option_map (λ es. list_text es None) (small_table i)
 
 -- nothing is printed before any refusal but that of the output
 abbrev pub IsSilent : Refusal → Type 0 → Type 0

@@ -1,6 +1,7 @@
 // Files without bytes.
 ghost use Rattle.std.specs.Prelude.{◌≡◌, ◌++◌, IfOk, OnOk, map, flat_map};
-ghost use Rattle.std.specs.List.{list_all};
+ghost use Rattle.std.specs.List.{AllByRecursion, list_all};
+ghost use Rattle.record_model.specs.Grammar.{IsWritable};
 ghost use Rattle.zenfs_cmd.specs.SmallImage.{are_apart, is_bare};
 
 use crate::repeats::repeats;
@@ -21,8 +22,9 @@ fn is_bare(file: &FileEntry) -> bool
     file.extents.items().is_empty() && file.active == NO_ACTIVE && file.size == 0
 }
 
-/// Whether no id stands twice, and no name.
+/// Whether no id stands twice, and no name in two files.
 pub(crate) fn are_apart(alloc: Global, files: &[FileEntry]) -> Result<bool, AllocError>
+    requires { AllByRecursion IsWritable files.now }
     ensures { IfOk result (λ apart. apart ≡ are_apart files.now) }
 {
     let ids = ids_of(alloc, files)?;

@@ -1,37 +1,43 @@
 // The command `list`.
-ghost use Rattle.std.specs.Prelude.{◌≡◌, ◌≤◌, ◌++◌, Some, None, OnOk, IfOk, IfErr};
-ghost use Rattle.zone_image.specs.Counts.{Rose};
+ghost use Rattle.std.specs.Prelude.{◌≡◌, Some, None, OnOk, IfOk, IfErr, IsErrOf};
+ghost use Rattle.zone_image.specs.Counts.{HasCause, Rose};
 ghost use Rattle.zone_image.specs.Image.{IsCrash};
 ghost use Rattle.zone_image.specs.Moments.{LeavesOnly};
-ghost use Rattle.fs_report.specs.Written.{AddsFront};
-ghost use Rattle.zenfs_cmd.specs.Listing.{HasReason, IsPrinted, IsPrintedInPart, IsSilent, listed_text};
-ghost use Rattle.zenfs_cmd.specs.SmallImage.{small_files};
+ghost use Rattle.command_model.specs.CommandLine.Command.{ListFiles};
+ghost use Rattle.command_model.specs.Options.{Word};
+ghost use Rattle.zenfs_cmd.specs.Listing.{IsPrinted, IsPrintedInPart, IsSilent, listed_text};
+ghost use Rattle.zenfs_cmd.specs.Reasons.{HasReason};
+ghost use Rattle.zenfs_cmd.specs.SmallTables.{small_table};
 
+use crate::opened::{OpenError, open_image};
 use crate::refusal::Refusal;
-use crate::small_image::{FilesError, small_files};
 use fs_report::{Sink, list_text, write_all};
 use record_model::Payload;
 use std::alloc::Global;
-use zoned_device::{ProbeError, ZonedDevice};
+use zoned_device::ZonedDevice;
 
 /// Prints the list of a device's files.
-pub(crate) fn list_files<D: ZonedDevice, O: Sink>(
+pub(crate) fn list_files<'a, D: ZonedDevice, O: Sink>(
     alloc: Global,
     dev: &mut D,
     out: &mut O,
-) -> Result<(), Refusal>
+) -> Result<(), Refusal<'a>>
     ensures listed { OnOk result (D.tells → O.tells → IsPrinted (listed_text (D.image dev.old)) (O.written out.old) (O.written out.new)) }
-    ensures refused { IfErr result (HasReason ⊥
+    ensures refused { IfErr result (λ refusal. (at : Word) → HasReason (Some (ListFiles at None))
         (Rose (D.faults dev.old) (D.faults dev.new))
         (Rose (O.faults out.old) (O.faults out.new) × (D.tells → O.tells → IsPrintedInPart (listed_text (D.image dev.old)) (O.written out.old) (O.written out.new)))
-        (D.tells → D.absent dev.old)
-        (D.tells → listed_text (D.image dev.old) ≡ None)) }
+        D.tells (D.absent dev.old) (D.image dev.old) refusal) }
     ensures silent { IfErr result (λ refusal. IsSilent refusal (out.new ≡ out.old)) }
     ensures unchanged { D.tells → D.image dev.new ≡ D.image dev.old }
     ensures any_moment { LeavesOnly D.tick D.since dev.old dev.new (IsCrash (D.image dev.old)) }
-    ensures changes { D.failed_changes dev.new ≡ D.failed_changes dev.old }
 {
-    let text = text_of(alloc, dev)?;
+    let text = match text_of(alloc, dev) {
+        Ok(text) => text,
+        Err(OpenError::DevFault) => return Err(Refusal::DeviceFault),
+        Err(OpenError::NotAnImage) => return Err(Refusal::NotAnImage),
+        Err(OpenError::OtherImage) => return Err(Refusal::OtherImage),
+        Err(OpenError::NoMemory) => return Err(Refusal::NoMemory),
+    };
     match write_all(out, text.items()) {
         Ok(()) => Ok(()),
         Err(_) => Err(Refusal::OutputFault),
@@ -39,28 +45,17 @@ pub(crate) fn list_files<D: ZonedDevice, O: Sink>(
 }
 
 // The text of the list.
-fn text_of<D: ZonedDevice>(alloc: Global, dev: &mut D) -> Result<Payload, Refusal>
+fn text_of<D: ZonedDevice>(alloc: Global, dev: &mut D) -> Result<Payload, OpenError>
     ensures text { IfOk result (λ text. D.tells → listed_text (D.image dev.old) ≡ Some text) }
-    ensures refused { IfErr result (HasReason ⊥
-        (Rose (D.faults dev.old) (D.faults dev.new)) ⊥ (D.tells → D.absent dev.old) (D.tells → listed_text (D.image dev.old) ≡ None)) }
+    ensures absent { IsErrOf result OpenError.NotAnImage → D.tells → D.absent dev.old }
+    ensures other { IsErrOf result OpenError.OtherImage → D.tells → small_table (D.image dev.old) ≡ None }
     ensures unchanged { D.tells → D.image dev.new ≡ D.image dev.old }
     ensures any_moment { LeavesOnly D.tick D.since dev.old dev.new (IsCrash (D.image dev.old)) }
-    ensures changes { D.failed_changes dev.new ≡ D.failed_changes dev.old }
+    ensures cause { HasCause (D.faults dev.old) (D.faults dev.new) (IsErrOf result OpenError.DevFault) }
 {
-    let geometry = match dev.probe() {
-        Ok(geometry) => geometry,
-        Err(ProbeError::Failed) => return Err(Refusal::DeviceFault),
-        Err(ProbeError::NotAnImage) => return Err(Refusal::NotAnImage),
-        Err(ProbeError::NoMemory) => return Err(Refusal::NoMemory),
-    };
-    let files = match small_files(alloc, dev, &geometry) {
-        Ok(files) => files,
-        Err(FilesError::DevFault) => return Err(Refusal::DeviceFault),
-        Err(FilesError::OtherImage) => return Err(Refusal::OtherImage),
-        Err(FilesError::NoMemory) => return Err(Refusal::NoMemory),
-    };
-    match list_text(alloc, files.items(), None) {
+    let opened = open_image(alloc, dev)?;
+    match list_text(alloc, &opened.table, None) {
         Ok(text) => Ok(text),
-        Err(_) => Err(Refusal::NoMemory),
+        Err(_) => Err(OpenError::NoMemory),
     }
 }

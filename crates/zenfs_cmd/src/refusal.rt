@@ -1,12 +1,13 @@
 // Why a command is refused.
-ghost use Rattle.std.specs.Prelude.{◌≡◌};
-ghost use Rattle.zenfs_cmd.specs.Refusals.{refusal_status, refusal_text};
+ghost use Rattle.std.specs.Prelude.{◌≡◌, ◌++◌, OnOk, IsErr};
+ghost use Rattle.zone_image.specs.Counts.{HasCause, Rose};
+ghost use Rattle.zenfs_cmd.specs.Refusals.{refusal_cause, refusal_status, refusal_text, refused_name};
 
-use fs_report::Status;
+use fs_report::{Sink, SinkFault, Status, write_all};
 
 /// Why a command is refused.
 #[derive(Clone, Copy, Debug, PartialEq, Eq)]
-pub enum Refusal {
+pub enum Refusal<'a> {
     /// The words are no command.
     Words,
     /// The device failed.
@@ -17,34 +18,81 @@ pub enum Refusal {
     NoMemory,
     /// The file is no image of a zoned device.
     NotAnImage,
-    /// The image holds more than one log with one snapshot of files without bytes.
+    /// The image isn't one log of a snapshot of files without bytes and of deletions; or it has no
+    /// room for a record that the command adds.
     OtherImage,
+    /// This breaks the rule of names.
+    BadName(&'a str),
+    /// No file has this name.
+    NotFound(&'a str),
 }
 
-impl Refusal {
-    /// How the program ends.
-    pub(crate) fn status(self) -> Status
-        ensures { result ≡ refusal_status self }
+impl<'a> Refusal<'a> {
+    // How the program ends.
+    fn status(self) -> Status
+        ensures { result ≡ refusal_status self.entry }
     {
         match self {
             Refusal::Words => Status::Words,
-            Refusal::DeviceFault | Refusal::OutputFault => Status::Fault,
+            Refusal::DeviceFault => Status::Fault,
+            Refusal::OutputFault => Status::Fault,
             Refusal::NoMemory => Status::Memory,
-            Refusal::NotAnImage | Refusal::OtherImage => Status::Refused,
+            Refusal::NotAnImage => Status::Refused,
+            Refusal::OtherImage => Status::Refused,
+            Refusal::BadName(_) => Status::Refused,
+            Refusal::NotFound(_) => Status::Refused,
         }
     }
 
-    /// The line that the program says of it.
-    pub(crate) fn text(self) -> &'static str
-        ensures { result.now ≡ refusal_text self }
+    // The name that is refused, or nothing.
+    fn name(self) -> &'a str
+        ensures { result.now ≡ refused_name self.entry }
     {
         match self {
-            Refusal::Words => "zenfs: bad command line\n",
-            Refusal::DeviceFault => "zenfs: device fault\n",
-            Refusal::OutputFault => "zenfs: output fault\n",
-            Refusal::NoMemory => "zenfs: out of memory\n",
-            Refusal::NotAnImage => "zenfs: not a zoned image\n",
-            Refusal::OtherImage => "zenfs: image form not built\n",
+            Refusal::BadName(name) => name,
+            Refusal::NotFound(name) => name,
+            Refusal::Words => "",
+            Refusal::DeviceFault => "",
+            Refusal::OutputFault => "",
+            Refusal::NoMemory => "",
+            Refusal::NotAnImage => "",
+            Refusal::OtherImage => "",
         }
     }
+
+    // What is said of it.
+    fn cause(self) -> &'static str
+        ensures { result.now ≡ refusal_cause self.entry }
+    {
+        match self {
+            Refusal::Words => "bad command line\n",
+            Refusal::DeviceFault => "device fault\n",
+            Refusal::OutputFault => "output fault\n",
+            Refusal::NoMemory => "out of memory\n",
+            Refusal::NotAnImage => "not a zoned image\n",
+            Refusal::OtherImage => "image form not built\n",
+            Refusal::BadName(_) => ": bad name\n",
+            Refusal::NotFound(_) => ": not found\n",
+        }
+    }
+}
+
+/// Says a refusal, of which a fault changes nothing, and tells how the program ends.
+pub fn refuse<E: Sink>(err: &mut E, refusal: Refusal<'_>) -> Status
+    ensures status { result ≡ refusal_status refusal.entry }
+    ensures said { (Rose (E.faults err.old) (E.faults err.new) → ⊥) → E.tells → E.written err.new ≡ E.written err.old ++ refusal_text refusal.entry }
+{
+    let _ = say(err, refusal);
+    refusal.status()
+}
+
+// Writes the line of a refusal.
+fn say<E: Sink>(err: &mut E, refusal: Refusal<'_>) -> Result<(), SinkFault>
+    ensures said { OnOk result (E.tells → E.written err.new ≡ E.written err.old ++ refusal_text refusal.entry) }
+    ensures cause { HasCause (E.faults err.old) (E.faults err.new) (IsErr result) }
+{
+    write_all(err, b"zenfs: ")?;
+    write_all(err, refusal.name().as_bytes())?;
+    write_all(err, refusal.cause().as_bytes())?;
+    Ok(())
 }

@@ -17,13 +17,13 @@ const SHAPE: Geometry = Geometry {
 };
 
 // A snapshot of the empty file `a.txt`: its tag, the length of its list, and the list's one entry.
-const A_TXT: &[u8] =
+pub(crate) const A_TXT: &[u8] =
     b"\x01\0\0\0\x43\x42\x01\0\0\0\x01\0\0\0\0\0\0\0\x03\0\0\0\0\0\0\0\0\0\0\0\x04\0\0\0\0\0\0\0\x06\0\0\0\x00\xf1\x53\x65\0\0\0\0\x07\0\0\0\xff\xff\xff\xff\xff\xff\xff\xff\x09\0\0\0\x05a.txt";
 
 // A snapshot of no file.
 const NOTHING: &[u8] = b"\x01\0\0\0\0";
 
-const LIST: &[&str] = &["list", "--image=i"];
+pub(crate) const LIST: &[&str] = &["list", "--image=i"];
 
 // A log of a superblock and this snapshot.
 fn log(rt: &impl Abort, alloc: Global, snapshot: &[u8]) -> Result<Vec<u8>, Fail> {
@@ -47,7 +47,7 @@ fn log(rt: &impl Abort, alloc: Global, snapshot: &[u8]) -> Result<Vec<u8>, Fail>
 }
 
 // A device whose zone 0 has a superblock and this snapshot.
-fn device(rt: &impl Abort, alloc: Global, snapshot: &[u8]) -> Result<MemZones, Fail> {
+pub(crate) fn device(rt: &impl Abort, alloc: Global, snapshot: &[u8]) -> Result<MemZones, Fail> {
     let log = log(rt, alloc, snapshot)?;
     assert!(rt; log.len() == 1536);
     let mut dev = MemZones::new(alloc, SHAPE, Vec::new(alloc))?;
@@ -66,21 +66,33 @@ fn crowded_device(rt: &impl Abort, alloc: Global) -> Result<MemZones, Fail> {
 }
 
 // How the program ends with these words over a device, and what it says, `room` bytes at most.
-fn said<D: ZonedDevice>(
+pub(crate) fn said<D: ZonedDevice>(
     alloc: Global,
     words: &[&str],
     dev: D,
     room: usize,
 ) -> Result<(Status, Vec<u8>, Vec<u8>), Fail> {
+    let (status, _, out, err) = ran(alloc, words, dev, room)?;
+    Ok((status, out, err))
+}
+
+// The same, with the device that is handed back.
+pub(crate) fn ran<D: ZonedDevice>(
+    alloc: Global,
+    words: &[&str],
+    dev: D,
+    room: usize,
+) -> Result<(Status, D, Vec<u8>, Vec<u8>), Fail> {
     let mut given = Vec::new(alloc);
     for word in words {
         given.push(String::from_str(alloc, word)?)?;
     }
     let mut out = MemSink::new(alloc, room, Vec::new(alloc))?;
     let mut err = MemSink::new(alloc, 100, Vec::new(alloc))?;
-    let (status, _) = run(alloc, &given, dev, &mut out, &mut err);
+    let (status, dev) = run(alloc, &given, dev, &mut out, &mut err);
     Ok((
         status,
+        dev,
         out.bytes().to_vec(alloc)?,
         err.bytes().to_vec(alloc)?,
     ))

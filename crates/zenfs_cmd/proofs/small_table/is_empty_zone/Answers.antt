@@ -1,7 +1,7 @@
 use Rattle.std.proofs.Common.{ap, ◌∙◌}
 use Rattle.std.specs.Prelude.{nat_eq}
 use Rattle.zenfs_cmd.proofs.SmallImageLaws.{zone_is_empty, zone_there}
-use Rattle.zenfs_cmd.proofs.small_image.is_empty_zone.Goals as goal
+use Rattle.zenfs_cmd.proofs.small_table.is_empty_zone.Goals as goal
 
 pub returns-clause-empty : goal.returns-clause-empty
 returns-clause-empty g c = λ told.
