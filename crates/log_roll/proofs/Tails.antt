@@ -1,5 +1,5 @@
 -- What stands behind the records that were read.
-use Rattle.std.proofs.Common.{◌≡◌, ℕ, zero, suc, ◌+◌, ◌-◌, ◌<◌, ◌≤◌, Bool, true, false, not, List, [], length, drop, refl, sym, ap, ◌∙◌, arith, length-drop}
+use Rattle.std.proofs.Common.{◌≡◌, ℕ, zero, suc, ◌+◌, ◌-◌, ◌<◌, ◌≤◌, Bool, true, false, not, List, length, drop, refl, sym, ap, ◌∙◌, arith, length-drop}
 use Rattle.std.specs.Prelude.{◌&&◌, ◌||◌, Option, Some, None, Result}
 use Rattle.log_model.specs.declared.selection.Refusal.{Refusal}
 use Rattle.std.specs.Str.{bytes_eq}
@@ -10,8 +10,6 @@ use Rattle.log_model.specs.LogScan.Item.{NoMore, Unfinished, Wrong, Whole}
 use Rattle.log_model.specs.LogScan.ScanEnd.{Clean, Torn, Bad}
 use Rattle.log_model.specs.LogSelection.{is_snapshot}
 use Rattle.meta_log.specs.Reader.{ReaderState, scan_left, unless_over}
-use Rattle.log_roll.specs.declared.next.LogEnd.{LogEnd}
-use Rattle.log_roll.specs.declared.summary.LogTail.{LogTail}
 use Rattle.log_roll.specs.declared.summary.LogRest.{LogRest}
 use Rattle.log_roll.specs.Records.{log_end_of}
 use Rattle.log_roll.specs.Summaries.{end_seen, is_clean_end, rest_with, unless_bad}
