@@ -51,3 +51,8 @@ sealed_image g infos i zone possible image within seal =
     let same : zone_finished z ≡ z = λ k. record { blocks = z.blocks; kept = z.kept; sealed = sym sealed k } in
     let zones = sym (change_nothing zone zone_finished i.zones no_zone (omega (arith, count, within)) same) in
     λ k. record { geometry = i.geometry; zones = zones k }
+
+-- a log that gets an end record may have one
+pub may_end : (capacity : ℕ) (can_end : Bool) (info : ZoneInfo) → gets_end capacity can_end info ≡ true → can_end ≡ true
+may_end capacity true info test = refl
+may_end capacity false info test = cc

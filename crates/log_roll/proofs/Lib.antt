@@ -14,3 +14,5 @@ pub mod LoneLogs
 pub mod RollFacts
 pub mod SelectedFacts
 pub mod RollSelects
+pub mod RollStages
+pub mod RollBase

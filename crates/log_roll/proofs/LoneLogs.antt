@@ -32,7 +32,7 @@ abbrev pub lone : ℕ → Scan → List Scan
 lone zone c = slice_set (no_records ∷ no_records ∷ no_records ∷ []) zone c
 
 -- they have the log of that zone, if it has one
-select_lone : (g : Geometry) (zone : ℕ) (c : Scan) → zone < 3
+pub select_lone : (g : Geometry) (zone : ℕ) (c : Scan) → zone < 3
     → select_log g (lone zone c) ≡ ((log_of_zone g zone c c.payloads c.end >>= (λ o. Ok (add_log o []))) >>= select_among)
 unfolding select_log
 select_lone g zero c below = refl
@@ -77,7 +77,7 @@ three : {a b c d e f : Scan} → a ≡ d → b ≡ e → c ≡ f → ◌≡◌ {
 three p q r = λ k. p k ∷ q k ∷ r k ∷ []
 
 -- the scans of such an image
-scans_lone : (zone : ℕ) (blocks : List (List ℕ)) (j : Image) → IsLone zone blocks j → scans_of j ≡ lone zone (scan j.geometry.block blocks)
+pub scans_lone : (zone : ℕ) (blocks : List (List ℕ)) (j : Image) → IsLone zone blocks j → scans_of j ≡ lone zone (scan j.geometry.block blocks)
 scans_lone zero blocks j is =
     three (ap (scan j.geometry.block) is.here) (empty_scan j.geometry.block (zone_at j 1).blocks (is.others 1 (omega arith) (λ e. cc))) (empty_scan j.geometry.block (zone_at j 2).blocks (is.others 2 (omega arith) (λ e. cc)))
 scans_lone (suc zero) blocks j is =

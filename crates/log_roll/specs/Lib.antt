@@ -13,3 +13,4 @@ pub mod Formatting
 pub mod RollMemory
 pub mod Rolling
 pub mod FormatLeaves
+pub mod RollLeaves

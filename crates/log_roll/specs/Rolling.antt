@@ -68,8 +68,8 @@ ended can_end zone i =
     if gets_end i.geometry.capacity can_end (info_of (zone_at i zone)) then appended i zone (end_blocks i.geometry.block) else i
 
 -- what that passes
-abbrev pub PassedByEnd : ℕ → Image → Image → Type 0
-PassedByEnd zone i j = IsCrash i j ⊎ PassedByAppend i zone (end_blocks i.geometry.block) j
+abbrev pub PassedByEnd : Bool → ℕ → Image → Image → Type 0
+PassedByEnd can_end zone i j = IsCrash i j ⊎ ((can_end ≡ true) × PassedByAppend i zone (end_blocks i.geometry.block) j)
 
 -- the old log ends and its zone is sealed
 abbrev pub infos_closed : Geometry → Bool → ℕ → List ZoneInfo → List ZoneInfo
@@ -81,7 +81,7 @@ closed can_end zone i = finished (ended can_end zone i) zone
 
 -- what that passes
 abbrev pub PassedByClose : Bool → ℕ → Image → Image → Type 0
-PassedByClose can_end zone = Then (PassedByEnd zone) (ended can_end zone) (λ i. PassedByFinish i zone)
+PassedByClose can_end zone = Then (PassedByEnd can_end zone) (ended can_end zone) (λ i. PassedByFinish i zone)
 
 -- a sync, and the resets of the other metadata zones
 abbrev pub PassedByStart : ℕ → ℕ → Image → Image → Type 0

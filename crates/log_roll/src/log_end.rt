@@ -31,7 +31,7 @@ fn end_log<D: ZonedDevice>(
     ensures infos { OnOk result (D.infos dev.new ≡ infos_ended geometry.now can_end zone (D.infos dev.old)) }
     ensures image { OnOk result (D.tells → D.image dev.new ≡ ended can_end zone (D.image dev.old)) }
     ensures device { ChangesDevice D.known D.geometry D.tells D.image D.tick D.since D.faults D.failed_changes dev.old dev.new (IsErr result)
-        (PassedByEnd zone (D.image dev.old)) }
+        (PassedByEnd can_end zone (D.image dev.old)) }
     ensures memory { vec_capacity bytes.old ≤ vec_capacity bytes.new }
 {
     let info = report(dev, zone)?;
@@ -56,7 +56,7 @@ fn end_with<D: ZonedDevice>(
     ensures infos { OnOk result (D.infos dev.new ≡ infos_ended geometry.now can_end zone (D.infos dev.old)) }
     ensures image { OnOk result (D.tells → D.image dev.new ≡ ended can_end zone (D.image dev.old)) }
     ensures device { ChangesDevice D.known D.geometry D.tells D.image D.tick D.since D.faults D.failed_changes dev.old dev.new (IsErr result)
-        (PassedByEnd zone (D.image dev.old)) }
+        (PassedByEnd can_end zone (D.image dev.old)) }
     ensures memory { vec_capacity bytes.old ≤ vec_capacity bytes.new }
 {
     if gets_end(geometry.capacity, can_end, info) {

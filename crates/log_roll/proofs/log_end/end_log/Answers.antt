@@ -7,5 +7,5 @@ pub returns-clause-device : goal.returns-clause-device
 returns-clause-device g c =
     let D = g.D.ZonedDevice in
     let dev = c.args.dev.now in
-    done_then g.met.D.ZonedDevice.moments (PassedByEnd c.args.zone (D.image dev)) c.in_ok-info.ensures.device (λ failed. cc) c.end_with.ensures.device
-    (λ j told crash. inl crash) (λ j told passed. subst (λ i. PassedByEnd c.args.zone i j) (c.report.ensures.image told) passed)
+    done_then g.met.D.ZonedDevice.moments (PassedByEnd c.args.can_end c.args.zone (D.image dev)) c.in_ok-info.ensures.device (λ failed. cc) c.end_with.ensures.device
+    (λ j told crash. inl crash) (λ j told passed. subst (λ i. PassedByEnd c.args.can_end c.args.zone i j) (c.report.ensures.image told) passed)
