@@ -2,4 +2,5 @@ pub mod ChangeLaws
 pub mod LengthLaws
 pub mod ApplyLaws
 pub mod LookupLaws
+pub mod NoteLaws
 pub mod PlaceLaws

@@ -3,4 +3,5 @@ pub mod Changes
 pub mod Lookups
 pub mod Records
 pub mod Sound
+pub mod Spare
 pub mod TableState

@@ -12,6 +12,7 @@ mod lookups;
 mod names;
 mod place;
 mod records;
+mod room;
 mod row;
 mod sizes;
 mod snapshot;
