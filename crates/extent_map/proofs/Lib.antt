@@ -1,4 +1,5 @@
 pub mod ChangeLaws
+pub mod CreateLaws
 pub mod LengthLaws
 pub mod ApplyLaws
 pub mod LookupLaws

@@ -1,5 +1,6 @@
 pub mod Applying
 pub mod Changes
+pub mod Creating
 pub mod Lookups
 pub mod Records
 pub mod Sound

@@ -4,6 +4,7 @@
 mod apply;
 mod change;
 mod copies;
+mod create;
 mod error;
 mod extents;
 mod lengths;
@@ -18,6 +19,6 @@ mod sizes;
 mod snapshot;
 mod table;
 
-pub use error::ApplyError;
+pub use error::{ApplyError, TableError};
 pub use record_model::{Extent, Extents, FileEntry, Files, Name, Names, Record};
 pub use table::FileTable;
