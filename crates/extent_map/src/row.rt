@@ -88,7 +88,8 @@ impl Row {
 
     /// The sum of the lengths of all extents of the file.
     pub(crate) fn size(&self) -> u64
-        ensures { result ≡ self.now.entry.size + size_of self.now.unrecorded }
+        ensures value { result ≡ self.now.entry.size + size_of self.now.unrecorded }
+        ensures sum { result ≡ size_of (extents_of self.now) }
     {
         self.entry.size + size_of(&self.unrecorded)
     }
