@@ -22,3 +22,6 @@ mod table;
 pub use error::{ApplyError, TableError};
 pub use record_model::{Extent, Extents, FileEntry, Files, Name, Names, Record};
 pub use table::FileTable;
+
+#[cfg(test)]
+mod tests;
