@@ -1,6 +1,7 @@
 -- Rows of a table in which everything is recorded.
-use Rattle.std.specs.Prelude.{◌≤◌, ◌≡◌, ℕ, suc, ◌+◌, ◌-◌, ◌<◌, Bool, true, false, not, cond, List, [], ◌∷◌, length, max, nat_lt, ◌==◌, Some, None, option_map, Result, Ok, Err, refl}
-use Rattle.std.proofs.Common.{drop, get_or, ap, sym, ◌∙◌, arith, add-one, drop-cons}
+use Rattle.std.specs.Prelude.{All, ◌≤◌, ◌≡◌, ℕ, suc, ◌+◌, ◌-◌, ◌<◌, Bool, true, false, not, cond, List, [], ◌∷◌, length, max, nat_lt, ◌==◌, Some, None, option_map, Result, Ok, Err, refl}
+use Rattle.std.proofs.lemmas.List.Elements.{All-map}
+use Rattle.std.proofs.Common.{subst, drop, get_or, ap, sym, ◌∙◌, arith, add-one, drop-cons}
 use Rattle.std.proofs.lemmas.Bool.{lt-ltb, ltb-true, ltb-false, eqb-true, and_parts}
 use Rattle.std.specs.List.{AllByRecursion, list_all}
 use Rattle.record_model.specs.Grammar.{InGrammar, IsWritable}
@@ -172,3 +173,9 @@ named_record (Replace e) h = lt-ltb 0 (length e.names) h.named
 -- a record makes a table of a table
 pub keeps_table : (r : Record) (old new : List TableRow) → InGrammar r → IsTable (recorded_of old) → IsMade (after_record r (recorded_of old)) new → IsTable (recorded_of new)
 keeps_table r old new grammar table made = record_keeps_table (recorded_of old) (recorded_of new) r table (named_record r grammar) made.made
+
+-- in rows that are made everything is recorded
+pub all_recorded : (after : Result Table DamageWhy) (rows : List TableRow) → IsMade after rows → All (λ r. r.unrecorded ≡ []) rows
+all_recorded after rows made =
+    subst (All (λ (r : TableRow). r.unrecorded ≡ [])) (sym made.settled)
+    (All-map (λ (r : TableRow). r.unrecorded ≡ []) mounted_row (recorded_of rows) (λ k d lt. refl))

@@ -39,6 +39,7 @@ impl FileTable {
         requires grammar { InGrammar value.now }
         ensures made { OnOk result
             (IsMade (after_record value.now (recorded_of self.old.rows)) self.new.rows) }
+        ensures recorded { OnOk result (All (λ r. r.unrecorded ≡ []) self.new.rows) }
         ensures greatest { OnOk result (self.new.greatest ≡ greatest_id (recorded_of self.new.rows)) }
         ensures refused { IfErr result
             (IsRefused (after_record value.now (recorded_of self.old.rows))) }

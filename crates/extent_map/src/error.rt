@@ -1,4 +1,4 @@
-// Why a record isn't applied.
+// Why a record isn't applied, and why a change isn't made.
 ghost use Rattle.std.specs.Prelude.{◌≡◌};
 ghost use Rattle.extent_map.specs.declared.error.ApplyError.TheVariants.{NoMemory};
 
@@ -23,4 +23,18 @@ impl From<AllocError> for ApplyError {
     fn from(_e: AllocError) -> ApplyError {
         ApplyError::NoMemory
     }
+}
+
+/// Why a change of names isn't made, in the order in which the causes are tested.
+#[derive(Clone, Copy, Debug, PartialEq, Eq, Error)]
+pub enum TableError {
+    /// No file has the old name.
+    #[error("not found")]
+    NotFound,
+    /// A file has the new name.
+    #[error("exists")]
+    Exists,
+    /// The greatest id is used.
+    #[error("file ids at their end")]
+    IdsEnd,
 }

@@ -4,6 +4,7 @@
 mod apply;
 mod change;
 mod copies;
+mod create;
 mod error;
 mod extents;
 mod lengths;
@@ -12,11 +13,15 @@ mod lookups;
 mod names;
 mod place;
 mod records;
+mod room;
 mod row;
 mod sizes;
 mod snapshot;
 mod table;
 
-pub use error::ApplyError;
+pub use error::{ApplyError, TableError};
 pub use record_model::{Extent, Extents, FileEntry, Files, Name, Names, Record};
 pub use table::FileTable;
+
+#[cfg(test)]
+mod tests;

@@ -14,7 +14,7 @@ use record_model::{FileEntry, Files, Record};
 use std::alloc::{AllocError, Global};
 
 impl FileTable {
-    /// The same table.
+    /// The same table, for which no room is made.
     pub fn copy(&self, alloc: Global) -> Result<FileTable, AllocError>
         ensures files { IfOk result (λ copy. copy.rows ≡ self.now.rows) }
         ensures greatest { IfOk result (λ copy. copy.greatest ≡ self.now.greatest) }
@@ -22,6 +22,9 @@ impl FileTable {
         Ok(FileTable {
             rows: copy_rows(alloc, &self.rows)?,
             greatest: self.greatest,
+            reserved: None,
+            room: None,
+            first_names: Vec::new(alloc),
         })
     }
 

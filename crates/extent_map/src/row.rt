@@ -1,14 +1,16 @@
 //! One file of the table.
 
-ghost use Rattle.std.specs.Prelude.{◌≡◌, ◌↔◌, ◌+◌, ◌<◌, length, IsTrue, IfOk};
+ghost use Rattle.std.specs.Prelude.{◌≡◌, ◌↔◌, ◌+◌, ◌^◌, ◌<◌, length, vec_capacity, IsTrue, IfOk};
 ghost use Rattle.log_model.specs.FileTable.{is_among, size_of};
 ghost use Rattle.fs_model.specs.FsState.{mounted_row};
-ghost use Rattle.fs_model.specs.FileSteps.{shown_row};
+ghost use Rattle.fs_model.specs.FileSteps.{note, shown_row};
+ghost use Rattle.extent_map.specs.Lookups.{extents_of};
 ghost use Rattle.extent_map.specs.Changes.{recorded_row, joined_row};
 ghost use Rattle.extent_map.specs.Sound.{IsSound};
 
 use crate::copies::{copy_entry, size_of};
-use crate::extents::{joined, room_for};
+use crate::extents::{add_extent, joined, room_for};
+use crate::room::Room;
 use record_model::{Extent, FileEntry, Name};
 use std::alloc::{AllocError, Global};
 use std::marker::Model;
@@ -86,7 +88,8 @@ impl Row {
 
     /// The sum of the lengths of all extents of the file.
     pub(crate) fn size(&self) -> u64
-        ensures { result ≡ self.now.entry.size + size_of self.now.unrecorded }
+        ensures value { result ≡ self.now.entry.size + size_of self.now.unrecorded }
+        ensures sum { result ≡ size_of (extents_of self.now) }
     {
         self.entry.size + size_of(&self.unrecorded)
     }
@@ -109,6 +112,22 @@ impl Row {
     {
         self.shown = self.entry.size + size_of(&self.unrecorded);
         self.entry.time = time;
+    }
+
+    /// Adds an extent that isn't recorded, in room that was made for it.
+    pub(crate) fn note(&mut self, extent: Extent, room: Room)
+        requires noted { length self.old.unrecorded < vec_capacity room.noted }
+        requires joined { length self.old.entry.extents + length self.old.unrecorded < vec_capacity room.joined }
+        requires sum { size_of (extents_of self.old) + extent.len < 2 ^ 64 }
+        ensures { self.new ≡ note extent self.old }
+    {
+        let Room {
+            id: _,
+            noted,
+            joined,
+        } = room;
+        add_extent(&mut self.unrecorded, noted, extent);
+        self.room = joined;
     }
 
     /// Takes all extents as recorded, and all bytes as shown.

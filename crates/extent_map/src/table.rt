@@ -2,7 +2,9 @@
 
 ghost use Rattle.std.specs.Prelude.{◌≡◌, []};
 
+use crate::room::Room;
 use crate::row::Row;
+use record_model::Name;
 use std::alloc::Global;
 use std::marker::Model;
 
@@ -12,6 +14,12 @@ use std::marker::Model;
 pub struct FileTable {
     pub(crate) rows: Vec<Row>,
     pub(crate) greatest: u64,
+    /// The id that `reserve` was last given.
+    pub(crate) reserved: Option<u64>,
+    /// Room for an extent of that file.
+    pub(crate) room: Option<Room>,
+    /// Room for the name of a new file.
+    pub(crate) first_names: Vec<Name>,
 }
 
 impl Model for FileTable {
@@ -19,7 +27,16 @@ impl Model for FileTable {
 
     ghost Value = { TableState };
 
-    ghost view = { λ t. record { rows = t.rows.items; greatest = t.greatest } };
+    ghost use Rattle.std.specs.Prelude.{◌-◌, length, min, vec_capacity};
+    ghost use Rattle.extent_map.specs.Spare.{spare_of};
+
+    ghost view = { λ t. record {
+      rows = t.rows.items;
+      greatest = t.greatest;
+      spare = spare_of t.rows.items t.room;
+      names_spare = min (vec_capacity t.rows - length t.rows.items) (vec_capacity t.first_names);
+      reserved = t.reserved;
+    } };
 
     ghost invariant = { λ t. IsTableState t.rows.items t.greatest };
 }
@@ -33,6 +50,9 @@ impl FileTable {
         FileTable {
             rows: Vec::new(alloc),
             greatest: 0,
+            reserved: None,
+            room: None,
+            first_names: Vec::new(alloc),
         }
     }
 }

@@ -1,4 +1,4 @@
-use Rattle.extent_map.proofs.ApplyLaws.{keeps_table}
+use Rattle.extent_map.proofs.ApplyLaws.{all_recorded, keeps_table}
 use Rattle.extent_map.proofs.table.FileTable.apply.Goals as goal
 
 pub invariant_of-self : goal.invariant_of-self
@@ -9,3 +9,6 @@ invariant_of-self c =
       above = rw c.deref-2.ensures.value at c.greatest_id-self-inside.ensures.above;
       limit = c.greatest_id-self-inside.ensures.limit;
     }
+
+pub returns-clause-recorded : goal.returns-clause-recorded
+returns-clause-recorded c = all_recorded _ c.in_ok-rows.rows.items c.in_ok-rows.ensures.made
