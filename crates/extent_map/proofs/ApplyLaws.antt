@@ -1,0 +1,174 @@
+-- Rows of a table in which everything is recorded.
+use Rattle.std.specs.Prelude.{◌≤◌, ◌≡◌, ℕ, suc, ◌+◌, ◌-◌, ◌<◌, Bool, true, false, not, cond, List, [], ◌∷◌, length, max, nat_lt, ◌==◌, Some, None, option_map, Result, Ok, Err, refl}
+use Rattle.std.proofs.Common.{drop, get_or, ap, sym, ◌∙◌, arith, add-one, drop-cons}
+use Rattle.std.proofs.lemmas.Bool.{lt-ltb, ltb-true, ltb-false, eqb-true, and_parts}
+use Rattle.std.specs.List.{AllByRecursion, list_all}
+use Rattle.record_model.specs.Grammar.{InGrammar, IsWritable}
+use Rattle.record_model.specs.declared.types.Record.{Record}
+use Rattle.record_model.specs.declared.types.FileEntry.{FileEntry}
+use Rattle.record_model.specs.declared.types.Record.TheVariants.{Snapshot, Update, Deletion, End, Replace}
+use Rattle.log_model.specs.FileTable.{Table, file_of, with_entry, has_right_size, grown, sorted, size_of, after_record, unless_broken, set_entry, delete_from, take_names, is_among, repeats_id, repeats_name, is_named}
+use Rattle.log_model.specs.TableLaws.{IsTable, IsNamedRecord}
+use Rattle.log_model.proofs.TableKept.{record_keeps_table}
+use Rattle.log_model.specs.declared.selection.DamageWhy.TheVariants as why
+use Rattle.log_model.specs.declared.selection.DamageWhy.{DamageWhy}
+use Rattle.fs_model.specs.FsState.{TableRow, mounted_row, row_of, greatest_id}
+use Rattle.extent_map.specs.Applying.{rows_of, with_row, IsMade, snapshot_table}
+use Rattle.extent_map.specs.Records.{recorded_of}
+use Rattle.extent_map.specs.Sound.{IsSound}
+
+-- the recorded entries of a table's rows
+pub recorded_rows : (es : Table) → recorded_of (rows_of es) ≡ es
+recorded_rows [] = refl
+recorded_rows (e ∷ es) = ap (λ (fs : Table). e ∷ fs) (recorded_rows es)
+
+-- the rows of a table are made
+pub made_rows : (after : Result Table DamageWhy) (es : Table) (rows : List TableRow) → after ≡ Ok es → rows ≡ rows_of es → IsMade after rows
+made_rows after es rows is rows_is =
+    let same : recorded_of rows ≡ es = ap recorded_of rows_is ∙ recorded_rows es in
+    record { made = is ∙ ap Ok (sym same); settled = rows_is ∙ ap rows_of (sym same) }
+
+-- the recorded entry of an id
+pub file_recorded : (id : ℕ) (rows : List TableRow) → file_of id (recorded_of rows) ≡ option_map (λ r. r.entry) (row_of id rows)
+file_recorded id [] = refl
+file_recorded id (r ∷ rs) = choice (r.entry.id == id) (file_recorded id rs)
+  where
+    choice : (b : Bool) → file_of id (recorded_of rs) ≡ option_map (λ q. q.entry) (row_of id rs)
+        → cond b (Some r.entry) (file_of id (recorded_of rs)) ≡ option_map (λ q. q.entry) (cond b (Some r) (row_of id rs))
+    choice true h = refl
+    choice false h = h
+
+-- an entry in its place, seen as rows
+pub with_rows : (e : FileEntry) (es : Table) → with_row (mounted_row e) (rows_of es) ≡ rows_of (with_entry e es)
+with_rows e [] = refl
+with_rows e (f ∷ fs) = choice (nat_lt e.id f.id) (e.id == f.id) (with_rows e fs)
+  where
+    choice : (b c : Bool) → with_row (mounted_row e) (rows_of fs) ≡ rows_of (with_entry e fs)
+        → cond b (mounted_row e ∷ mounted_row f ∷ rows_of fs) (cond c (mounted_row e ∷ rows_of fs) (mounted_row f ∷ with_row (mounted_row e) (rows_of fs)))
+        ≡ rows_of (cond b (e ∷ f ∷ fs) (cond c (e ∷ fs) (f ∷ with_entry e fs)))
+    choice true c h = refl
+    choice false true h = refl
+    choice false false h = ap (λ (rs : List TableRow). mounted_row f ∷ rs) h
+
+-- the greatest id is the greater of the first and of the rest
+greatest_first : (e : FileEntry) (es : Table) → greatest_id (e ∷ es) ≡ max e.id (greatest_id es)
+greatest_first e es = choice (nat_lt e.id (greatest_id es)) refl
+  where
+    choice : (b : Bool) → nat_lt e.id (greatest_id es) ≡ b → cond b (greatest_id es) e.id ≡ max e.id (greatest_id es)
+    choice true is = omega (arith, ltb-true e.id (greatest_id es) is)
+    choice false is = omega (arith, ltb-false e.id (greatest_id es) is)
+
+-- one row more
+pub greatest_more : (i : ℕ) (rows : List TableRow) (r : TableRow) (greatest all : ℕ) → i < length rows → r ≡ get_or rows i r
+    → max greatest (greatest_id (recorded_of (drop i rows))) ≡ all → max (max greatest r.entry.id) (greatest_id (recorded_of (drop (i + 1) rows))) ≡ all
+greatest_more i rows r greatest all lt is h =
+    let split : drop i rows ≡ r ∷ drop (i + 1) rows = rw (drop-cons rows i r lt, ← is, add-one) refl in
+    let rest = ap (λ (rs : List TableRow). greatest_id (recorded_of rs)) split ∙ greatest_first r.entry (recorded_of (drop (i + 1) rows)) in
+    omega (arith, rest, h)
+
+-- one more of the last entries in order
+pub sorted_more : (i : ℕ) (files : Table) (e : FileEntry) (rows : List TableRow) → i < length files → e ≡ get_or files (length files - 1 - i) e
+    → rows ≡ rows_of (sorted (drop (length files - i) files)) → with_row (mounted_row e) rows ≡ rows_of (sorted (drop (length files - (i + 1)) files))
+sorted_more i files e rows lt is h =
+    let at : length files - 1 - i < length files = omega arith in
+    let place : length files - (i + 1) ≡ length files - 1 - i = omega arith in
+    let next : suc (length files - 1 - i) ≡ length files - i = omega arith in
+    let split : drop (length files - (i + 1)) files ≡ e ∷ drop (length files - i) files =
+    ap (λ k. drop k files) place ∙ drop-cons files (length files - 1 - i) e at ∙ ap (λ (f : FileEntry). f ∷ drop (suc (length files - 1 - i)) files) (sym is) ∙ ap (λ k. e ∷ drop k files) next in
+    ap (with_row (mounted_row e)) h ∙ with_rows e (sorted (drop (length files - i) files)) ∙ sym (ap (λ (fs : Table). rows_of (sorted fs)) split)
+
+-- an entry that a record may have, of the right size, may be a row
+pub sound_entry : (e : FileEntry) → IsWritable e → has_right_size e ≡ true → IsSound e
+sound_entry e writable right = record { id = writable.id; size = eqb-true e.size (size_of e.extents) right; named = writable.named }
+
+-- so may one that is grown
+pub sound_grown : (f e : FileEntry) → IsWritable e → has_right_size (grown (Some f) e) ≡ true → IsSound (grown (Some f) e)
+sound_grown f e writable right = record { id = writable.id; size = eqb-true e.size (size_of (grown (Some f) e).extents) right; named = writable.named }
+
+-- so may all entries of a snapshot
+pub sound_entries : (files : Table) → AllByRecursion IsWritable files → list_all has_right_size files ≡ true → AllByRecursion IsSound files
+sound_entries [] writable right = tt
+sound_entries (e ∷ es) writable right =
+    let parts = and_parts (has_right_size e) (list_all has_right_size es) right in
+    (sound_entry e writable.0 parts.0, sound_entries es writable.1 parts.1)
+
+-- ---- what the records make
+
+-- a rule that holds
+pub unbroken : (b : Bool) (rule : ℕ) (es : Table) → b ≡ true → unless_broken (not b) rule es ≡ Ok es
+unbroken b rule es h = ap (λ c. unless_broken (not c) rule es) h
+
+-- a rule that doesn't hold
+pub broken : (b : Bool) (rule : ℕ) (es : Table) → b ≡ false → unless_broken (not b) rule es ≡ Err (why.Rule rule)
+broken b rule es h = ap (λ c. unless_broken (not c) rule es) h
+
+-- a snapshot
+pub snapshot_is : (files es : Table) → after_record (Snapshot files) es ≡ snapshot_table files
+unfolding after_record
+snapshot_is files es = refl
+
+-- a snapshot that breaks no rule
+pub snapshot_made : (files : Table) → list_all has_right_size files ≡ true → repeats_id files ≡ false → repeats_name files ≡ false → snapshot_table files ≡ Ok (sorted files)
+snapshot_made files sized ids names = rw (sized, ids, names) refl
+
+-- a record of the end
+pub end_is : (es : Table) → after_record End es ≡ Ok es
+unfolding after_record
+end_is es = refl
+
+-- an update of a new file
+pub update_new : (e : FileEntry) (es : Table) → file_of e.id es ≡ None → after_record (Update e) es ≡ unless_broken (not (has_right_size e)) 5 (set_entry e es)
+unfolding after_record
+update_new e es none = ap (λ f. unless_broken (not (has_right_size (grown f e))) 5 (set_entry (grown f e) es)) none
+
+-- an update of a file that is there
+pub update_known : (e f : FileEntry) (es : Table) → file_of e.id es ≡ Some f
+    → after_record (Update e) es ≡ unless_broken (not (has_right_size (grown (Some f) e))) 5 (set_entry (grown (Some f) e) es)
+unfolding after_record
+update_known e f es some = ap (λ there. unless_broken (not (has_right_size (grown there e))) 5 (set_entry (grown there e) es)) some
+
+-- a replacement of no file
+pub replace_unknown : (e : FileEntry) (es : Table) → file_of e.id es ≡ None → after_record (Replace e) es ≡ Err (why.Rule 3)
+unfolding after_record
+replace_unknown e es none = rw none refl
+
+-- a replacement of a file that is there
+pub replace_known : (e f : FileEntry) (es : Table) → file_of e.id es ≡ Some f → after_record (Replace e) es ≡ unless_broken (not (has_right_size e)) 5 (set_entry e es)
+unfolding after_record
+replace_known e f es some = rw some refl
+
+-- a deletion of no file
+pub delete_unknown : (id : ℕ) (name : List ℕ) (es : Table) → file_of id es ≡ None → after_record (Deletion id name) es ≡ Err (why.Rule 3)
+unfolding after_record
+delete_unknown id name es none = ap (λ there. delete_from there name es) none
+
+-- a deletion from a file that is there
+pub delete_known : (id : ℕ) (name : List ℕ) (f : FileEntry) (es : Table) → file_of id es ≡ Some f
+    → after_record (Deletion id name) es ≡ unless_broken (not (is_among f.names name)) 4 (take_names (name ∷ []) es)
+unfolding after_record
+delete_known id name f es some = ap (λ there. delete_from there name es) some
+
+-- ---- what a record keeps
+
+-- no id is above the greatest
+pub below_greatest : (rows : List TableRow) (greatest : ℕ) → greatest_id (recorded_of rows) ≤ greatest → AllByRecursion (λ r. r.entry.id ≤ greatest) rows
+below_greatest [] greatest h = tt
+below_greatest (r ∷ rs) greatest h =
+    let first = greatest_first r.entry (recorded_of rs) in (omega arith, below_greatest rs greatest (omega arith))
+
+-- entries that can be written have names
+named_entries : (files : Table) → AllByRecursion IsWritable files → AllByRecursion (λ e. is_named e ≡ true) files
+named_entries [] h = tt
+named_entries (e ∷ es) h = (lt-ltb 0 (length e.names) h.0.named, named_entries es h.1)
+
+-- so does each entry of a record in the grammar
+pub named_record : (r : Record) → InGrammar r → IsNamedRecord r
+named_record (Snapshot files) h = named_entries files h
+named_record (Update e) h = lt-ltb 0 (length e.names) h.named
+named_record (Deletion id name) h = tt
+named_record End h = tt
+named_record (Replace e) h = lt-ltb 0 (length e.names) h.named
+
+-- a record makes a table of a table
+pub keeps_table : (r : Record) (old new : List TableRow) → InGrammar r → IsTable (recorded_of old) → IsMade (after_record r (recorded_of old)) new → IsTable (recorded_of new)
+keeps_table r old new grammar table made = record_keeps_table (recorded_of old) (recorded_of new) r table (named_record r grammar) made.made

@@ -1,0 +1,102 @@
+//! Changes of one file of the table.
+
+ghost use Rattle.std.specs.Prelude.{◌≡◌, ◌+◌, ◌^◌, ◌<◌, ◌≤◌, length, slice_index_or, IfSome, IfNone, None, IsSome, Some, OnOk, IfOk};
+ghost use Rattle.std.specs.Option.{ForSome};
+ghost use Rattle.log_model.specs.FileTable.{size_of};
+ghost use Rattle.fs_model.specs.FileSteps.{note, shown_row};
+ghost use Rattle.extent_map.specs.Lookups.{extents_of};
+ghost use Rattle.extent_map.specs.Spare.{extents_more, spare_at};
+ghost use Rattle.fs_model.specs.FsState.{TableRow, on_row, row_of};
+ghost use Rattle.extent_map.specs.Changes.{recorded_row};
+
+use crate::lookups::row_of;
+use crate::room::{Room, room_for_one};
+use crate::row::Row;
+use crate::table::FileTable;
+use record_model::Extent;
+use std::alloc::{AllocError, Global};
+
+impl FileTable {
+    /// Makes room for one more file, and for one more extent of the file of this id. After want of
+    /// memory the files are as before.
+    pub fn reserve(&mut self, id: u64) -> Result<(), AllocError>
+        ensures rows { self.new.rows ≡ self.old.rows }
+        ensures greatest { self.new.greatest ≡ self.old.greatest }
+        ensures reserved { OnOk result (self.new.reserved ≡ Some id) }
+        ensures names_spare { OnOk result (1 ≤ self.new.names_spare) }
+        ensures spare { OnOk result (IsSome (row_of id self.new.rows) → 1 ≤ spare_at id self.new.spare) }
+    {
+        let alloc = *self.rows.allocator();
+        let room = room_in(alloc, &self.rows, id)?;
+        self.rows.reserve(1)?;
+        self.first_names.clear();
+        self.first_names.reserve(1)?;
+        self.room = Some(room);
+        self.reserved = Some(id);
+        Ok(())
+    }
+
+    /// Adds an extent of a file that isn't recorded. It makes the last of them longer, where it begins
+    /// where that one ends. It takes no memory.
+    pub fn note(&mut self, id: u64, extent: Extent)
+        requires there { IsSome (row_of id self.old.rows) }
+        requires spare { 1 ≤ spare_at id self.old.spare }
+        requires sum { ForSome (row_of id self.old.rows) (λ r. size_of (extents_of r) + extent.len < 2 ^ 64) }
+        ensures rows { self.new.rows ≡ on_row id (note extent) self.old.rows }
+        ensures greatest { self.new.greatest ≡ self.old.greatest }
+    {
+        let at = index_of(&self.rows, id).unwrap();
+        let room = self.room.take().unwrap();
+        let row = &mut self.rows[at];
+        row.note(extent, room);
+    }
+
+    /// Shows all bytes of a file, and sets its time.
+    pub fn show(&mut self, id: u64, time: u64)
+        requires { IsSome (row_of id self.old.rows) }
+        ensures rows { self.new.rows ≡ on_row id (shown_row time) self.old.rows }
+        ensures greatest { self.new.greatest ≡ self.old.greatest }
+    {
+        let at = index_of(&self.rows, id).unwrap();
+        let row = &mut self.rows[at];
+        row.show(time);
+    }
+
+    /// Takes all extents of a file as recorded, and all its bytes as shown; `active` is where its next
+    /// frames begin, or `NO_ACTIVE`.
+    pub fn recorded(&mut self, id: u64, active: u64)
+        requires { IsSome (row_of id self.old.rows) }
+        ensures rows { self.new.rows ≡ on_row id (recorded_row active) self.old.rows }
+        ensures greatest { self.new.greatest ≡ self.old.greatest }
+    {
+        let at = index_of(&self.rows, id).unwrap();
+        let row = &mut self.rows[at];
+        row.record(active);
+    }
+}
+
+/// Room for one more extent of a file, and none to speak of where it isn't there.
+fn room_in(alloc: Global, rows: &[Row], id: u64) -> Result<Room, AllocError>
+    ensures id { IfOk result (λ room. room.id ≡ id) }
+    ensures more { IfOk result (λ room. ForSome (row_of id rows.now) (λ r. 1 ≤ extents_more room r)) }
+{
+    match row_of(rows, id) {
+        None => room_for_one(alloc, id, &[], &[]),
+        Some(row) => room_for_one(alloc, id, row.entry().extents.items(), row.unrecorded()),
+    }
+}
+
+/// Where the row of an id stands.
+pub(crate) fn index_of(rows: &[Row], id: u64) -> Option<usize>
+    ensures absent { IfNone result (row_of id rows.now ≡ None) }
+    ensures within { IfSome result (λ at. at < length rows.now) }
+    ensures row { IfSome result (λ at. (d : TableRow) → row_of id rows.now ≡ Some (slice_index_or rows.now at d)) }
+    ensures id { IfSome result (λ at. (d : TableRow) → (slice_index_or rows.now at d).entry.id ≡ id) }
+{
+    for (i, row) in rows.iter().enumerate() {
+        if row.id() == id {
+            return Some(i);
+        }
+    }
+    None
+}

@@ -1,0 +1,176 @@
+//! One file of the table.
+
+ghost use Rattle.std.specs.Prelude.{◌≡◌, ◌↔◌, ◌+◌, ◌^◌, ◌<◌, length, vec_capacity, IsTrue, IfOk};
+ghost use Rattle.log_model.specs.FileTable.{is_among, size_of};
+ghost use Rattle.fs_model.specs.FsState.{mounted_row};
+ghost use Rattle.fs_model.specs.FileSteps.{note, shown_row};
+ghost use Rattle.extent_map.specs.Lookups.{extents_of};
+ghost use Rattle.extent_map.specs.Changes.{recorded_row, joined_row};
+ghost use Rattle.extent_map.specs.Sound.{IsSound};
+
+use crate::copies::{copy_entry, size_of};
+use crate::extents::{add_extent, joined, room_for};
+use crate::room::Room;
+use record_model::{Extent, FileEntry, Name};
+use std::alloc::{AllocError, Global};
+use std::marker::Model;
+use std::mem;
+
+/// A file: its recorded entry, its extents that aren't recorded yet, and how many of its bytes are
+/// shown to readers.
+#[derive(Debug, Drop)]
+pub(crate) struct Row {
+    entry: FileEntry,
+    unrecorded: Vec<Extent>,
+    shown: u64,
+    /// Room for all extents, where some aren't recorded yet.
+    room: Vec<Extent>,
+}
+
+impl Model for Row {
+    ghost use Rattle.fs_model.specs.FsState.{TableRow};
+
+    ghost Value = { TableRow };
+
+    ghost use Rattle.std.specs.Prelude.{length, vec_capacity};
+    ghost use Rattle.extent_map.specs.Sound.{HasRoom, IsRow};
+
+    ghost view = { λ r. record { entry = r.entry; unrecorded = r.unrecorded.items; shown = r.shown } };
+
+    ghost invariant = { λ r.
+        IsRow (record { entry = r.entry; unrecorded = r.unrecorded.items; shown = r.shown })
+        × HasRoom (length r.entry.extents) (length r.unrecorded.items) (vec_capacity r.room) };
+}
+
+impl Row {
+    /// The row of an entry of which everything is recorded and shown.
+    pub(crate) fn new(alloc: Global, entry: FileEntry) -> Row
+        requires { IsSound entry }
+        ensures { result ≡ mounted_row entry }
+    {
+        let shown = entry.size;
+        Row {
+            entry,
+            unrecorded: Vec::new(alloc),
+            shown,
+            room: Vec::new(alloc),
+        }
+    }
+
+    /// The file's number.
+    pub(crate) fn id(&self) -> u64
+        ensures { result ≡ self.now.entry.id }
+    {
+        self.entry.id
+    }
+
+    /// The recorded entry.
+    pub(crate) fn entry(&self) -> &FileEntry
+        ensures value { result.now ≡ self.now.entry }
+        ensures sound { IsSound result.now }
+    {
+        &self.entry
+    }
+
+    /// The extents that aren't recorded, in the file's order.
+    pub(crate) fn unrecorded(&self) -> &[Extent]
+        ensures { result.now ≡ self.now.unrecorded }
+    {
+        &self.unrecorded
+    }
+
+    /// How many bytes are shown to readers.
+    pub(crate) fn shown(&self) -> u64
+        ensures { result ≡ self.now.shown }
+    {
+        self.shown
+    }
+
+    /// The sum of the lengths of all extents of the file.
+    pub(crate) fn size(&self) -> u64
+        ensures { result ≡ self.now.entry.size + size_of self.now.unrecorded }
+    {
+        self.entry.size + size_of(&self.unrecorded)
+    }
+
+    /// The same file.
+    pub(crate) fn copy(&self, alloc: Global) -> Result<Row, AllocError>
+        ensures { IfOk result (λ copy. copy ≡ self.now) }
+    {
+        Ok(Row {
+            entry: copy_entry(alloc, &self.entry)?,
+            unrecorded: Vec::from_slice(alloc, &self.unrecorded)?,
+            shown: self.shown,
+            room: room_for(alloc, self.entry.extents.items(), &self.unrecorded)?,
+        })
+    }
+
+    /// Shows all bytes of the file, and sets its time.
+    pub(crate) fn show(&mut self, time: u64)
+        ensures { self.new ≡ shown_row time self.old }
+    {
+        self.shown = self.entry.size + size_of(&self.unrecorded);
+        self.entry.time = time;
+    }
+
+    /// Adds an extent that isn't recorded, in room that was made for it.
+    pub(crate) fn note(&mut self, extent: Extent, room: Room)
+        requires noted { length self.old.unrecorded < vec_capacity room.noted }
+        requires joined { length self.old.entry.extents + length self.old.unrecorded < vec_capacity room.joined }
+        requires sum { size_of (extents_of self.old) + extent.len < 2 ^ 64 }
+        ensures { self.new ≡ note extent self.old }
+    {
+        let Room {
+            id: _,
+            noted,
+            joined,
+        } = room;
+        add_extent(&mut self.unrecorded, noted, extent);
+        self.room = joined;
+    }
+
+    /// Takes all extents as recorded, and all bytes as shown.
+    pub(crate) fn record(&mut self, active: u64)
+        ensures { self.new ≡ recorded_row active self.old }
+    {
+        if !self.unrecorded.is_empty() {
+            self.join();
+        }
+        self.entry.active = active;
+    }
+
+    /// Takes all extents as recorded, and all bytes as shown.
+    fn join(&mut self)
+        requires { 0 < length self.old.unrecorded }
+        ensures { self.new ≡ joined_row self.old }
+    {
+        let alloc = *self.unrecorded.allocator();
+        let room = mem::replace(&mut self.room, Vec::new(alloc));
+        self.entry.size += size_of(&self.unrecorded);
+        self.entry.extents = joined(room, self.entry.extents.items(), &self.unrecorded);
+        self.unrecorded.clear();
+        self.shown = self.entry.size;
+    }
+
+    /// Whether the byte of an offset is shown to readers, as only bytes of the file are.
+    pub(crate) fn shows(&self, offset: u64) -> bool
+        ensures shown { IsTrue result ↔ (offset < self.now.shown) }
+        ensures within { IsTrue result → offset < size_of self.now.entry.extents + size_of self.now.unrecorded }
+    {
+        offset < self.shown
+    }
+
+    /// Whether the file has this name.
+    pub(crate) fn has_name(&self, name: &Name) -> bool
+        ensures { result ≡ is_among self.now.entry.names name.now }
+    {
+        is_among(self.entry.names.items(), name)
+    }
+}
+
+/// Whether a name is one of these.
+pub(crate) fn is_among(names: &[Name], name: &Name) -> bool
+    ensures { result ≡ is_among names.now name.now }
+{
+    names.iter().any(|other| other.items() == name.items())
+}
