@@ -1,1 +1,3 @@
 pub mod OverlapLaws
+pub mod FrameWalks
+pub mod RecoveryLaws

@@ -1,9 +1,14 @@
 -- The frames of a zone, one by one.
-use Rattle.std.specs.Prelude.{ℕ, zero, suc, ◌+◌, ◌*◌, ◌-◌, ◌<◌, ◌≤◌, ◌||◌, List, [], ◌∷◌, length, take, drop, Option, Some, None, nat_lt, ◌==◌, if◌then◌else◌}
+use Rattle.std.specs.Prelude.{ℕ, ◌/◌, ◌<◌, ◌≤◌, ◌||◌, List, [], ◌∷◌, length, take, Option, Some, None, nat_lt, ◌==◌, if◌then◌else◌}
 use Rattle.std.specs.Int.{w64, from_le_bytes}
 use Rattle.record_model.specs.declared.types.Extent.{Extent}
 use Rattle.log_model.specs.Frames.{frame_blocks, frames_within}
 use Rattle.mount_replay.specs.declared.frames.Frame.{Frame}
+use Rattle.mount_replay.specs.declared.frames.FrameStart.{FrameStart}
+use Rattle.zone_image.specs.declared.Geometry.{Geometry}
+use Rattle.zone_image.specs.declared.ZoneInfo.{ZoneInfo}
+use Rattle.zone_image.specs.Image.{zone_of, offset_of}
+use Rattle.zone_image.specs.Infos.{info_at}
 
 -- the frame of this length, where it fits so many blocks
 abbrev pub frame_of : ℕ → ℕ → ℕ → Option Frame
@@ -23,3 +28,12 @@ pub record IsFrameWithin (left : ℕ) (f : Frame) : Type 0 where
 -- the frames in these blocks, of which the first has this address
 abbrev pub frames_from : ℕ → ℕ → List (List ℕ) → List Extent
 frames_from block at blocks = frames_within (length blocks) block at blocks
+
+-- where a walk from a recovery point begins
+abbrev pub frame_start_of : Geometry → List ZoneInfo → ℕ → FrameStart
+frame_start_of g infos start = record {
+  zone = zone_of g start;
+  first = offset_of g start / g.block;
+  start = start;
+  written = (info_at infos (zone_of g start)).written;
+}

@@ -1,10 +1,12 @@
 -- Where extents and recovery points may lie, by the written numbers of the zones.
-use Rattle.std.specs.Prelude.{ℕ, ◌+◌, ◌*◌, ◌%◌, Bool, ◌&&◌, List, nat_lt, nat_le, ◌==◌}
+use Rattle.std.specs.Prelude.{ℕ, ◌+◌, ◌*◌, ◌%◌, Bool, not, ◌&&◌, List, nat_lt, nat_le, ◌==◌}
 use Rattle.zone_image.specs.declared.Geometry.{Geometry}
 use Rattle.zone_image.specs.declared.ZoneInfo.{ZoneInfo}
 use Rattle.zone_image.specs.Image.{zone_of, offset_of}
 use Rattle.zone_image.specs.Infos.{info_at}
 use Rattle.record_model.specs.declared.types.Extent.{Extent}
+use Rattle.record_model.specs.declared.types.FileEntry.{FileEntry}
+use Rattle.log_model.specs.Frames.{no_active}
 
 -- within the written part of one data zone
 abbrev pub is_written_in : Geometry → List ZoneInfo → Extent → Bool
@@ -18,3 +20,7 @@ is_recovery_point_in g infos start =
     nat_le 3 (zone_of g start) && nat_lt (zone_of g start) g.zones
     && (offset_of g start % g.block == 0)
     && nat_le (offset_of g start) ((info_at infos (zone_of g start)).written * g.block)
+
+-- the file has a recovery point, and it is one
+abbrev pub is_recovered_in : Geometry → List ZoneInfo → FileEntry → Bool
+is_recovered_in g infos e = not (e.active == no_active) && is_recovery_point_in g infos e.active

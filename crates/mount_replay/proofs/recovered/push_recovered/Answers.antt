@@ -1,0 +1,62 @@
+use Rattle.std.proofs.Common.{◌≡◌, ◌-◌, ◌*◌, ◌++◌, List, drop, sym, ◌∙◌, ap, subst, append-nil}
+use Rattle.zone_image.specs.Infos.{IsImage, IsPossible}
+use Rattle.zone_image.specs.declared.Geometry.{Geometry}
+use Rattle.zone_image.specs.declared.ZoneInfo.{ZoneInfo}
+use Rattle.zone_image.specs.Image.{Image, zone_at}
+use Rattle.zone_image.proofs.ReadLaws.{reads_nothing}
+use Rattle.record_model.specs.declared.types.Extent.{Extent}
+use Rattle.log_model.specs.Frames.{extent_if_any}
+use Rattle.mount_replay.specs.FrameWalk.{frames_from}
+use Rattle.mount_replay.specs.declared.frames.FrameStart.{FrameStart}
+use Rattle.mount_replay.proofs.RecoveryLaws.{recovers_nothing, recovers_frames, recovers_rest, recovered_point, point_zone}
+use Rattle.mount_replay.proofs.recovered.push_recovered.Goals as goal
+
+-- the image is one of this geometry and these numbers
+told_as : (g h : Geometry) (infos told : List ZoneInfo) (i : Image) → g ≡ h → infos ≡ told → IsImage h told i → IsImage g infos i
+told_as g h infos told i shape same image = subst (λ k. IsImage k infos i) (sym shape) (subst (λ l. IsImage h l i) (sym same) image)
+
+possible_as : (g h : Geometry) (infos told : List ZoneInfo) → g ≡ h → infos ≡ told → IsPossible h told → IsPossible g infos
+possible_as g h infos told shape same possible = subst (λ k. IsPossible k infos) (sym shape) (subst (λ l. IsPossible h l) (sym same) possible)
+
+pub returns-then-not-is_recovered-clause-found : goal.returns-then-not-is_recovered-clause-found
+returns-then-not-is_recovered-clause-found g c = λ told.
+    let D = g.D.ZonedDevice in
+    let dev = c.args.dev.now in
+    let shape = c.args.geometry.now in
+    let infos = c.args.infos.now in
+    let possible = possible_as shape (D.geometry dev) infos (D.infos dev) c.requires.same_geometry c.requires.same_infos (g.met.D.ZonedDevice.possible dev c.requires.is_known) in
+    let image = told_as shape (D.geometry dev) infos (D.infos dev) (D.image dev) c.requires.same_geometry c.requires.same_infos (g.met.D.ZonedDevice.told dev told c.requires.is_known) in
+    let none = recovers_nothing shape infos (D.image dev) c.args.entry.now possible image (sym c.is_recovered.ensures ∙ c.if-not-is_recovered.true) in
+    sym (ap (λ (es : List Extent). c.args.extents.now.items ++ es) none ∙ append-nil c.args.extents.now.items)
+
+pub returns-then-not-entry-clause-found : goal.returns-then-not-entry-clause-found
+returns-then-not-entry-clause-found g c = λ told.
+    let D = g.D.ZonedDevice in
+    let dev = c.args.dev.now in
+    let shape = c.args.geometry.now in
+    let infos = c.args.infos.now in
+    let entry = c.args.entry.now in
+    let possible = possible_as shape (D.geometry dev) infos (D.infos dev) c.requires.same_geometry c.requires.same_infos (g.met.D.ZonedDevice.possible dev c.requires.is_known) in
+    let image = told_as shape (D.geometry dev) infos (D.infos dev) (D.image dev) c.requires.same_geometry c.requires.same_infos (g.met.D.ZonedDevice.told dev told c.requires.is_known) in
+    let within = point_zone shape infos entry.active (recovered_point shape infos entry (sym c.is_recovered.ensures ∙ c.if-not-is_recovered.false)) in
+    let rest = recovers_rest shape infos (D.image dev) entry possible image within (sym c.is_recovered.ensures ∙ c.if-not-is_recovered.false) c.if-not-entry.true in
+    c.in_ok-push_rest.ensures
+    ∙ ap (λ (f : FrameStart). c.args.extents.now.items ++ extent_if_any f.start ((f.written - f.first) * shape.block)) c.frame_start-from.ensures.exact
+    ∙ ap (λ (es : List Extent). c.args.extents.now.items ++ es) (sym rest)
+
+pub returns-in_err-block-clause-device : goal.returns-in_err-block-clause-device
+returns-in_err-block-clause-device g c = reads_nothing g.met.D.ZonedDevice.moments c.args.dev.now c.requires.is_known
+
+pub returns-clause-found : goal.returns-clause-found
+returns-clause-found g c = λ told.
+    let D = g.D.ZonedDevice in
+    let dev = c.args.dev.now in
+    let shape = c.args.geometry.now in
+    let infos = c.args.infos.now in
+    let entry = c.args.entry.now in
+    let possible = possible_as shape (D.geometry dev) infos (D.infos dev) c.requires.same_geometry c.requires.same_infos (g.met.D.ZonedDevice.possible dev c.requires.is_known) in
+    let image = told_as shape (D.geometry dev) infos (D.infos dev) (D.image dev) c.requires.same_geometry c.requires.same_infos (g.met.D.ZonedDevice.told dev told c.requires.is_known) in
+    let frames = recovers_frames shape infos (D.image dev) entry possible image (sym c.is_recovered.ensures ∙ c.if-not-is_recovered.false) c.if-not-entry.false in
+    c.in_ok-walk_frames.ensures.found told
+    ∙ ap (λ (f : FrameStart). c.args.extents.now.items ++ frames_from shape.block f.start (drop f.first (zone_at (D.image dev) f.zone).blocks)) c.frame_start-from.ensures.exact
+    ∙ ap (λ (es : List Extent). c.args.extents.now.items ++ es) (sym frames)
