@@ -6,7 +6,7 @@ ghost use Rattle.command_words.specs.Commands.{command_meant};
 use zone_image::Geometry;
 
 /// A command with its values, as the words have them. Whether names and the geometry are right is asked later.
-#[derive(Clone, Copy)]
+#[derive(Clone, Copy, Debug, PartialEq, Eq)]
 pub enum Command<'a> {
     /// Makes an image in a file, over what is there where `force` is set.
     MakeImage {

@@ -7,6 +7,8 @@ mod reading;
 mod settings;
 mod shapes;
 mod splitting;
+#[cfg(test)]
+mod tests;
 mod values;
 
 pub use command::Command;
