@@ -1,0 +1,5 @@
+pub mod Commands
+pub mod Numbers
+pub mod Settings
+pub mod Shapes
+pub mod Splits

@@ -1,0 +1,15 @@
+//! The words of the utility: which of them are a command, and its values.
+#![tactic(auto)]
+
+mod command;
+mod numbers;
+mod reading;
+mod settings;
+mod shapes;
+mod splitting;
+#[cfg(test)]
+mod tests;
+mod values;
+
+pub use command::Command;
+pub use reading::{BadWords, image_path, read};
