@@ -57,21 +57,27 @@ fn write_image(
     Ok(())
 }
 
-// How `zenfs list` ends over an image file, and what it says.
-fn listed(rt: HostRuntime, option: &str) -> Result<(Status, Vec<u8>, Vec<u8>), Fail> {
+// How `zenfs` ends with these words over the image file that they name, and what it says.
+fn said(rt: HostRuntime, words: &[&str]) -> Result<(Status, Vec<u8>, Vec<u8>), Fail> {
     let alloc = rt.alloc();
-    let mut words = Vec::new(alloc);
-    words.push(String::from_str(alloc, "list")?)?;
-    words.push(String::from_str(alloc, option)?)?;
-    let zones = zones_of(rt, words.as_slice()).map_err(|_| "no memory")?;
+    let mut given = Vec::new(alloc);
+    for word in words {
+        given.push(String::from_str(alloc, word)?)?;
+    }
+    let zones = zones_of(rt, given.as_slice()).map_err(|_| "no memory")?;
     let mut out = MemSink::new(alloc, 100, Vec::new(alloc))?;
     let mut err = MemSink::new(alloc, 100, Vec::new(alloc))?;
-    let (status, _) = run(alloc, words.as_slice(), zones, &mut out, &mut err);
+    let (status, _) = run(alloc, given.as_slice(), zones, &mut out, &mut err);
     Ok((
         status,
         out.bytes().to_vec(alloc)?,
         err.bytes().to_vec(alloc)?,
     ))
+}
+
+// How `zenfs list` ends over an image file, and what it says.
+fn listed(rt: HostRuntime, option: &str) -> Result<(Status, Vec<u8>, Vec<u8>), Fail> {
+    said(rt, &["list", option])
 }
 
 #[test]
@@ -99,5 +105,24 @@ fn an_image_file_is_listed_and_a_cut_or_absent_one_is_none(rt: HostRuntime) -> R
     let (status, _, err) = listed(rt, option)?;
     assert_eq!(rt; status, Status::Refused);
     assert_eq!(rt; err.as_slice(), b"zenfs: not a zoned image\n".as_slice());
+    Ok(())
+}
+
+#[test]
+fn a_name_that_is_deleted_in_an_image_file_is_listed_no_more(rt: HostRuntime) -> Result<(), Fail> {
+    let path = "zenfs_deletion_test.img";
+    let option = "--image=zenfs_deletion_test.img";
+    let _ = fs::remove_file(&rt, path);
+    write_image(&rt, rt, path, A_TXT)?;
+    let (status, out, err) = said(rt, &["delete", option, "--path=a.txt"])?;
+    assert_eq!(rt; status, Status::Ok);
+    assert_eq!(rt; (out.len(), err.len()), (0, 0));
+    let (status, out, _) = listed(rt, option)?;
+    assert_eq!(rt; status, Status::Ok);
+    assert_eq!(rt; out.len(), 0);
+    let (status, _, err) = said(rt, &["delete", option, "--path=a.txt"])?;
+    assert_eq!(rt; status, Status::Refused);
+    assert_eq!(rt; err.as_slice(), b"zenfs: a.txt: not found\n".as_slice());
+    fs::remove_file(&rt, path)?;
     Ok(())
 }

@@ -1,11 +1,11 @@
 -- What a crash leaves of a deletion.
-use Rattle.std.proofs.Common.{◌≡◌, ◌≢◌, ℕ, zero, suc, ◌+◌, ◌-◌, ◌<◌, ◌≤◌, ◌⊎◌, inl, inr, ⊎_elim, Bool, true, false, List, [], ◌∷◌, ◌++◌, length, take, map, refl, ap, sym, ◌∙◌, subst, arith, length-append, length-take}
-use Rattle.std.specs.Prelude.{◌||◌, ◌&&◌, ◌==◌, nat_le, Some, not, nat_lt}
+use Rattle.std.proofs.Common.{◌≡◌, ℕ, zero, suc, ◌+◌, ◌-◌, ◌<◌, ◌≤◌, ◌⊎◌, inl, inr, ⊎_elim, Bool, true, false, List, [], ◌∷◌, ◌++◌, length, take, map, refl, ap, sym, ◌∙◌, subst, arith, length-append, length-take}
+use Rattle.std.specs.Prelude.{◌||◌, ◌==◌, nat_le, Some, not, nat_lt}
 use Rattle.std.specs.List.{AllZip}
 use Rattle.std.proofs.lemmas.Bool.{and_parts, and_from, cases_lt, eq-eqb, eqb-true, leb-true, ltb-true, ne_eqb}
 use Rattle.std.proofs.lemmas.List.{take-append-le, take_all}
 use Rattle.zone_image.specs.declared.Geometry.{Geometry}
-use Rattle.zone_image.specs.Image.{Zone, Image, ZoneCrash, IsCrash, is_active, no_zone, zone_at, zone_in}
+use Rattle.zone_image.specs.Image.{Zone, Image, ZoneCrash, IsCrash, is_active, zone_at, zone_in}
 use Rattle.zone_image.specs.Changes.{appended, change_at, synced, zone_appended, zone_synced}
 use Rattle.zone_image.specs.Moments.{PassedByAppend}
 use Rattle.zone_image.proofs.CrashLaws.{crash-synced}
@@ -14,7 +14,7 @@ use Rattle.log_model.specs.LogScan.{blocks_of, record_blocks}
 use Rattle.log_model.specs.ScanLaws.{IsRecordOf}
 use Rattle.log_model.proofs.CrashLaws.{crashed_zone}
 use Rattle.log_model.proofs.RecordLaws.{length_record}
-use Rattle.zenfs_cmd.specs.Deletion.{AddsDeletion, IsDeletedIn, IsDeletionOf, IsDone, has_free_blocks}
+use Rattle.zenfs_cmd.specs.Deletion.{IsDeletedIn, IsDeletionOf, IsDone, has_free_blocks}
 use Rattle.zenfs_cmd.specs.SmallImage.{is_empty_zone, other_zones_empty}
 use Rattle.zenfs_cmd.specs.SmallTables.{small_table}
 use Rattle.zenfs_cmd.proofs.DeletionPayloads.{one_block, payload_has_bytes, payload_is_short}

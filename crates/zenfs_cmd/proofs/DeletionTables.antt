@@ -1,15 +1,13 @@
 -- The table of an image after a deletion.
-use Rattle.std.proofs.Common.{◌≡◌, ℕ, ◌+◌, ◌<◌, ◌≤◌, Bool, true, false, cond, not, List, [], ◌∷◌, ◌++◌, length, map, drop, refl, ap, sym, ◌∙◌, subst, arith}
-use Rattle.std.specs.Prelude.{◌&&◌, ◌==◌, Option, Some, None, is_some, Result, Ok, Err}
+use Rattle.std.proofs.Common.{◌≡◌, ℕ, ◌+◌, ◌≤◌, Bool, true, false, cond, not, List, [], ◌∷◌, ◌++◌, length, map, drop, refl, ap, sym, ◌∙◌, arith}
+use Rattle.std.specs.Prelude.{Option, Some, None, is_some, Result, Ok, Err}
 use Rattle.std.specs.Result.{result_ok}
-use Rattle.std.proofs.lemmas.Bool.{and_parts, and_from, eq-eqb, ne_eqb}
+use Rattle.std.proofs.lemmas.Bool.{eq-eqb, ne_eqb}
 use Rattle.std.proofs.lemmas.List.{map-append}
 use Rattle.zone_image.specs.declared.Geometry.{Geometry}
 use Rattle.zone_image.specs.Image.{Image, zone_at}
 use Rattle.record_model.specs.declared.types.FileEntry.{FileEntry}
-use Rattle.record_model.specs.declared.types.Record.{Record}
 use Rattle.record_model.specs.declared.types.Record.TheVariants.{Deletion}
-use Rattle.record_model.specs.declared.fault.DecodeFault.{DecodeFault}
 use Rattle.record_model.specs.Decoding.{record_of}
 use Rattle.log_model.specs.FileTable.{Table, after_record, delete_from, file_of, is_among, replay_log, unless_broken}
 use Rattle.log_model.specs.LogScan.{Scan, ScanEnd, is_clean, record_blocks, scan}

@@ -1,5 +1,5 @@
 -- What a crash leaves of a record that is added to a log and made durable.
-use Rattle.std.proofs.Common.{◌≡◌, ℕ, ◌≤◌, List, length, take, ap, sym, ◌∙◌, subst, arith}
+use Rattle.std.proofs.Common.{◌≡◌, ℕ, List, length, ap, sym, ◌∙◌, subst, arith}
 use Rattle.std.proofs.lemmas.List.{take_all}
 use Rattle.zone_image.specs.Image.{Image, IsCrash}
 use Rattle.zone_image.specs.Changes.{appended}

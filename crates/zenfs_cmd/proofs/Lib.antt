@@ -9,3 +9,4 @@ pub mod DeletionPayloads
 pub mod DeletionTables
 pub mod DeletionCrashes
 pub mod ReasonLaws
+pub mod WordLaws

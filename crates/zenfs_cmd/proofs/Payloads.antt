@@ -3,7 +3,7 @@ use Rattle.std.proofs.Common.{◌≡◌, ℕ, zero, suc, ◌+◌, ◌<◌, ◌�
 use Rattle.std.specs.Prelude.{Option, Some, None, option_map, ◌==◌, ◌&&◌}
 use Rattle.std.proofs.lemmas.List.{length-map}
 use Rattle.std.proofs.lemmas.Bool.{eqb-true}
-use Rattle.log_model.specs.LogScan.{Item, Scan, ScanEnd, first_item, is_clean, scan_after, scan_from, scan_within, with_payload}
+use Rattle.log_model.specs.LogScan.{Item, ScanEnd, first_item, is_clean, scan_after, scan_from, scan_within}
 use Rattle.log_model.specs.LogScan.Item.{NoMore, Unfinished, Wrong, Whole}
 use Rattle.log_model.proofs.LogScanLaws.{whole_count}
 use Rattle.meta_log.specs.declared.item.LogItem.{LogItem}

@@ -1,6 +1,6 @@
 -- Reasons of refusals, from step to step.
-use Rattle.std.proofs.Common.{◌≡◌, ℕ, ◌≤◌, true, false, cond, List, [], ◌∷◌, refl, ap, sym, ◌∙◌, subst, arith}
-use Rattle.std.specs.Prelude.{◌&&◌, Option, Some, None, is_some}
+use Rattle.std.proofs.Common.{◌≡◌, ℕ, ◌≤◌, true, false, cond, [], ◌∷◌, refl, ap, sym, ◌∙◌, subst, arith}
+use Rattle.std.specs.Prelude.{Option, Some, None, is_some}
 use Rattle.std.proofs.lemmas.Bool.{and_from}
 use Rattle.zone_image.specs.Counts.{Rose}
 use Rattle.zone_image.specs.Image.{Image}
@@ -30,20 +30,21 @@ unfolding bad_name_of
 good_word at name named = ap (λ b. cond b (first_bad_name []) (Some name)) named
 
 -- the refusal of a name has its reason
-pub name_refused : (at name : Word) (es : Table) (device output tells absent : Type 0) (i : Image) (r : Refusal) → (tells → small_table i ≡ Some es) → (tells → has_free_blocks i ≡ true)
-    → IsNameRefused name es r → HasReason (Some (DeleteFile at name)) device output tells absent i r
-name_refused at name es device output tells absent i Words table room h = absurd h
-name_refused at name es device output tells absent i DeviceFault table room h = absurd h
-name_refused at name es device output tells absent i OutputFault table room h = absurd h
-name_refused at name es device output tells absent i NoMemory table room h = tt
-name_refused at name es device output tells absent i NotAnImage table room h = absurd h
-name_refused at name es device output tells absent i OtherImage table room h = absurd h
-name_refused at name es device output tells absent i (BadName given) table room h =
-    (bad_word at name h.1 ∙ ap (λ n. Some n) (sym h.0), λ told. takes at name i es (table told) (room told))
-name_refused at name es device output tells absent i (NotFound given) table room h = (
+pub name_refused : (at name : Word) (es : Table) (device output tells absent : Type 0) (i : Image) (r : Refusal) → (absent → ⊥) → (tells → small_table i ≡ Some es)
+    → (tells → has_free_blocks i ≡ true) → IsNameRefused name es r → HasReason (Some (DeleteFile at name)) device output tells absent i r
+name_refused at name es device output tells absent i Words there table room h = absurd h
+name_refused at name es device output tells absent i DeviceFault there table room h = absurd h
+name_refused at name es device output tells absent i OutputFault there table room h = absurd h
+name_refused at name es device output tells absent i NoMemory there table room h = tt
+name_refused at name es device output tells absent i NotAnImage there table room h = absurd h
+name_refused at name es device output tells absent i OtherImage there table room h = absurd h
+name_refused at name es device output tells absent i (BadName given) there table room h =
+    (bad_word at name h.1 ∙ ap (λ n. Some n) (sym h.0), λ told. (there, takes at name i es (table told) (room told)))
+name_refused at name es device output tells absent i (NotFound given) there table room h = (
   ap (λ n. n ∷ []) (sym h.0),
   good_word at name h.1,
   λ told. (
+    there,
     takes at name i es (table told) (room told),
     ap (λ o. is_some (o >>= owner_of name)) (table told) ∙ ap (λ o. is_some o) h.2,
   ),
@@ -54,22 +55,30 @@ pub rose_before : (before mid now : ℕ) → before ≤ mid → Rose mid now →
 rose_before before mid now le rose = omega (arith, le, rose)
 
 -- a reason that stands for other facts too
-pub reason_from : (c : Command) (device other output output' tells absent absent' : Type 0) (i k : Image) (r : Refusal) → (device → other) → (output → output') → (absent → absent') → (tells → i ≡ k)
-    → HasReason (Some c) device output tells absent i r → HasReason (Some c) other output' tells absent' k r
-reason_from c device other output output' tells absent absent' i k Words faults outputs images same h = h
-reason_from c device other output output' tells absent absent' i k DeviceFault faults outputs images same h = faults h
-reason_from c device other output output' tells absent absent' i k OutputFault faults outputs images same h = outputs h
-reason_from c device other output output' tells absent absent' i k NoMemory faults outputs images same h = h
-reason_from c device other output output' tells absent absent' i k NotAnImage faults outputs images same h = λ told. images (h told)
-reason_from c device other output output' tells absent absent' i k OtherImage faults outputs images same h = λ told. subst (λ m. takes_image c m ≡ false) (same told) (h told)
-reason_from c device other output output' tells absent absent' i k (BadName name) faults outputs images same h =
-    (h.0, λ told. subst (λ m. takes_image c m ≡ true) (same told) (h.1 told))
-reason_from c device other output output' tells absent absent' i k (NotFound name) faults outputs images same h =
-    (h.0, h.1, λ told. subst (λ m. (takes_image c m ≡ true) × (finds_name c m ≡ false)) (same told) (h.2 told))
+pub reason_from : (c : Command) (device other output output' tells absent absent' : Type 0) (i k : Image) (r : Refusal) → (device → other) → (output → output') → (absent → absent')
+    → (tells → absent' → absent) → (tells → i ≡ k) → HasReason (Some c) device output tells absent i r → HasReason (Some c) other output' tells absent' k r
+reason_from c device other output output' tells absent absent' i k Words faults outputs images back same h = h
+reason_from c device other output output' tells absent absent' i k DeviceFault faults outputs images back same h = faults h
+reason_from c device other output output' tells absent absent' i k OutputFault faults outputs images back same h = outputs h
+reason_from c device other output output' tells absent absent' i k NoMemory faults outputs images back same h = h
+reason_from c device other output output' tells absent absent' i k NotAnImage faults outputs images back same h = λ told. images (h told)
+reason_from c device other output output' tells absent absent' i k OtherImage faults outputs images back same h =
+    λ told. (λ none. (h told).0 (back told none), subst (λ m. takes_image c m ≡ false) (same told) (h told).1)
+reason_from c device other output output' tells absent absent' i k (BadName name) faults outputs images back same h =
+    (h.0, λ told. (λ none. (h.1 told).0 (back told none), subst (λ m. takes_image c m ≡ true) (same told) (h.1 told).1))
+reason_from c device other output output' tells absent absent' i k (NotFound name) faults outputs images back same h = (
+  h.0,
+  h.1,
+  λ told. (
+    λ none. (h.2 told).0 (back told none),
+    subst (λ m. takes_image c m ≡ true) (same told) (h.2 told).1,
+    subst (λ m. finds_name c m ≡ false) (same told) (h.2 told).2,
+  ),
+)
 
 -- the reason of a command that the words are, and that prints nothing
 pub reason_of : (wanted : Option Command) (c : Command) (device output tells absent : Type 0) (i : Image) (r : Refusal) → wanted ≡ Some c
     → HasReason (Some c) device ⊥ tells absent i r → HasReason wanted device output tells absent i r
 reason_of wanted c device output tells absent i r is h =
     subst (λ w. HasReason w device output tells absent i r) (sym is)
-    (reason_from c device device ⊥ output tells absent absent i i r (λ fault. fault) (λ none. absurd none) (λ none. none) (λ told. refl) h)
+    (reason_from c device device ⊥ output tells absent absent i i r (λ fault. fault) (λ none. absurd none) (λ none. none) (λ told none. none) (λ told. refl) h)

@@ -7,3 +7,4 @@ pub mod Deletion
 pub mod Reasons
 pub mod Refusals
 pub mod Listing
+pub mod Laws

@@ -33,10 +33,12 @@ HasReason wanted device output tells absent i DeviceFault = device
 HasReason wanted device output tells absent i OutputFault = output
 HasReason wanted device output tells absent i NoMemory = ⊤
 HasReason wanted device output tells absent i NotAnImage = IsSomeAnd wanted (λ c. tells → absent)
-HasReason wanted device output tells absent i OtherImage = IsSomeAnd wanted (λ c. tells → takes_image c i ≡ false)
-HasReason wanted device output tells absent i (BadName name) = IsSomeAnd wanted (λ c. (bad_name_of c ≡ Some name.now) × (tells → takes_image c i ≡ true))
+HasReason wanted device output tells absent i OtherImage = IsSomeAnd wanted (λ c. tells → (absent → ⊥) × (takes_image c i ≡ false))
+HasReason wanted device output tells absent i (BadName name) =
+    IsSomeAnd wanted (λ c. (bad_name_of c ≡ Some name.now) × (tells → (absent → ⊥) × (takes_image c i ≡ true)))
 HasReason wanted device output tells absent i (NotFound name) =
-    IsSomeAnd wanted (λ c. (names_of c ≡ name.now ∷ []) × (bad_name_of c ≡ None) × (tells → (takes_image c i ≡ true) × (finds_name c i ≡ false)))
+    IsSomeAnd wanted (λ c. (names_of c ≡ name.now ∷ []) × (bad_name_of c ≡ None)
+    × (tells → (absent → ⊥) × (takes_image c i ≡ true) × (finds_name c i ≡ false)))
 
 -- a name is refused that is none, or that no file of the table has
 abbrev pub IsNameRefused : List ℕ → Table → Refusal → Type 0

@@ -1,5 +1,5 @@
 -- What a program says of a refusal, and how it ends.
-use Rattle.std.specs.Prelude.{ℕ, List, [], ◌∷◌, ◌++◌, codes}
+use Rattle.std.specs.Prelude.{ℕ, List, [], ◌++◌, codes}
 use Rattle.fs_report.specs.declared.status.Status.{Status}
 use Rattle.fs_report.specs.declared.status.Status.TheVariants as status
 use Rattle.zenfs_cmd.specs.declared.refusal.Refusal.{Refusal}

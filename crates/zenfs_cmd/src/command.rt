@@ -1,6 +1,7 @@
 // What `zenfs` does.
 ghost use Rattle.std.specs.Prelude.{◌≡◌, ◌≢◌, ◌⊎◌, ◌↔◌, ◌++◌, true, false, map, string_bytes, Some, None, OnOk, IfErr, IsErrOf};
 ghost use Rattle.zone_image.specs.Counts.{Rose};
+ghost use Rattle.zone_image.specs.Image.{Image};
 ghost use Rattle.zone_image.specs.Moments.{LeavesOnly};
 ghost use Rattle.record_model.specs.Name.{is_name};
 ghost use Rattle.fs_report.specs.declared.status.Status.TheVariants as status;
@@ -8,7 +9,7 @@ ghost use Rattle.command_model.specs.CommandLine as line;
 ghost use Rattle.command_model.specs.CommandLine.Command.{ListFiles, DeleteFile};
 ghost use Rattle.command_model.specs.Options.{Word};
 ghost use Rattle.zenfs_cmd.specs.declared.refusal.Refusal.{Refusal};
-ghost use Rattle.zenfs_cmd.specs.Deletion.{IsDone, MayLeave};
+ghost use Rattle.zenfs_cmd.specs.Deletion.{IsDeletedIn, IsDone, MayLeave};
 ghost use Rattle.zenfs_cmd.specs.Listing.{IsPrinted, IsPrintedInPart, IsSilent, listed_text};
 ghost use Rattle.zenfs_cmd.specs.Reasons.{HasReason, IsUnwritten, can_be_done};
 ghost use Rattle.zenfs_cmd.specs.Refusals.{refusal_status, refusal_text};
@@ -39,9 +40,13 @@ pub fn run<D: ZonedDevice, O: Sink, E: Sink>(
     ensures listed { result.0 ≡ status.Ok → (at : Word) → command_in (map string_bytes words.now) ≡ Some (ListFiles at None)
         → D.tells → O.tells → IsPrinted (listed_text (D.image dev)) (O.written out.old) (O.written out.new) }
 
-    // A deletion takes the name out of the table by one record, durably, and prints nothing.
+    // A deletion takes the name out of the table by one record, durably, and prints nothing: whatever a crash leaves then
+    // has the table without the name.
     ensures deleted { result.0 ≡ status.Ok → (at name : Word) → command_in (map string_bytes words.now) ≡ Some (DeleteFile at name)
         → (out.new ≡ out.old) × (is_name name ≡ true) × (D.tells → IsDone name (D.image dev) (D.image result.1)) }
+
+    ensures now { result.0 ≡ status.Ok → (at name : Word) → command_in (map string_bytes words.now) ≡ Some (DeleteFile at name)
+        → (j : Image) → D.since result.1 (D.tick result.1) j → IsDeletedIn name (D.image dev) j }
 
     // Every other end has its reason, and its line and no other is said.
     ensures refused { result.0 ≢ status.Ok → (refusal : Refusal) × (result.0 ≡ refusal_status refusal)

@@ -7,6 +7,7 @@ mod delete;
 #[cfg(test)]
 mod delete_tests;
 mod durable;
+pub mod laws;
 mod list;
 mod log;
 mod log_table;

@@ -48,6 +48,7 @@ pub(crate) fn list_files<'a, D: ZonedDevice, O: Sink>(
 fn text_of<D: ZonedDevice>(alloc: Global, dev: &mut D) -> Result<Payload, OpenError>
     ensures text { IfOk result (λ text. D.tells → listed_text (D.image dev.old) ≡ Some text) }
     ensures absent { IsErrOf result OpenError.NotAnImage → D.tells → D.absent dev.old }
+    ensures present { IsErrOf result OpenError.OtherImage → D.tells → D.absent dev.old → ⊥ }
     ensures other { IsErrOf result OpenError.OtherImage → D.tells → small_table (D.image dev.old) ≡ None }
     ensures unchanged { D.tells → D.image dev.new ≡ D.image dev.old }
     ensures any_moment { LeavesOnly D.tick D.since dev.old dev.new (IsCrash (D.image dev.old)) }

@@ -40,6 +40,8 @@ pub(crate) fn open_image<D: ZonedDevice>(alloc: Global, dev: &mut D) -> Result<O
     ensures table { IfOk result (λ o. D.tells → small_table (D.image dev.old) ≡ Some o.table.items) }
     ensures ids { IfOk result (λ o. HaveIds o.table.items) }
     ensures absent { IsErrOf result OpenError.NotAnImage → D.tells → D.absent dev.old }
+    ensures there { OnOk result (D.tells → D.absent dev.old → ⊥) }
+    ensures present { IsErrOf result OpenError.OtherImage → D.tells → D.absent dev.old → ⊥ }
     ensures other { IsErrOf result OpenError.OtherImage → D.tells → small_table (D.image dev.old) ≡ None }
     ensures unchanged { D.tells → D.image dev.new ≡ D.image dev.old }
     ensures any_moment { LeavesOnly D.tick D.since dev.old dev.new (IsCrash (D.image dev.old)) }

@@ -1,4 +1,3 @@
-use Rattle.std.proofs.Common.{sym}
 use Rattle.zone_image.specs.Moments.{PassedByAppend}
 use Rattle.zone_image.proofs.MomentLaws.{goes_on}
 use Rattle.log_model.specs.LogScan.{record_blocks}
