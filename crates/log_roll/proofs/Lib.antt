@@ -16,3 +16,5 @@ pub mod SelectedFacts
 pub mod RollSelects
 pub mod RollStages
 pub mod RollBase
+pub mod RollCrash
+pub mod RollMoments

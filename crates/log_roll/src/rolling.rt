@@ -6,6 +6,7 @@ ghost use Rattle.log_model.specs.LogScan.{blocks_of, record_blocks};
 ghost use Rattle.log_model.specs.LogSelection.{selected_log};
 ghost use Rattle.log_roll.specs.DeviceSteps.{ChangesDevice};
 ghost use Rattle.log_roll.specs.FormatLeaves.{HasNewLog};
+ghost use Rattle.log_roll.specs.RollLeaves.{LeftByRoll};
 ghost use Rattle.log_roll.specs.Rolling.{IsSnapshot, IsUnwritten, RefusesAs, last_sequence, next_chosen, next_superblock, next_zone, roll_need, roll_refusal, rolled_image, rolled_infos};
 
 use crate::buffer::RollBuffer;
@@ -116,7 +117,7 @@ fn roll_written<D: ZonedDevice>(
     ensures log { OnOk result (D.tells → HasNewLog (next_zone old.now.zone) (next_superblock old.now) snapshot.now (D.image dev.new)) }
     ensures selects { OnOk result (D.tells → selected_log (D.image dev.new) ≡ Ok (next_chosen old.now)) }
     ensures device { ChangesDevice D.known D.geometry D.tells D.image D.tick D.since D.faults D.failed_changes dev.old dev.new (IsErrOf result RollError.DevFault)
-        (λ _. Unit {0}) }
+        (LeftByRoll old.now snapshot.now (D.image dev.old)) }
     ensures memory { vec_capacity bytes.old ≤ vec_capacity bytes.new }
 {
     let superblock = next_superblock(old);
@@ -168,12 +169,51 @@ pub fn roll_with<D: ZonedDevice>(
     ensures selects { OnOk result (D.tells → selected_log (D.image dev.new) ≡ Ok (next_chosen old.now)) }
 
     ensures device { ChangesDevice D.known D.geometry D.tells D.image D.tick D.since D.faults D.failed_changes dev.old dev.new (IsErrOf result RollError.DevFault)
-        (λ _. Unit {0}) }
+        (LeftByRoll old.now snapshot.now (D.image dev.old)) }
     ensures same_buffer { buffer.new ≡ buffer.old }
 {
     let _greatest = old.greatest;
-    refusal(geometry, old, snapshot.len() as u64)?;
-    roll_written(dev, geometry, old, snapshot, &mut buffer.bytes)
+    match refusal(geometry, old, snapshot.len() as u64) {
+        Ok(()) => roll_written(dev, geometry, old, snapshot, &mut buffer.bytes),
+        Err(why) => Err(why),
+    }
+}
+
+// Rolls a log that nothing known before refuses, after its memory was taken.
+fn roll_taking<D: ZonedDevice>(
+    alloc: Global,
+    dev: &mut D,
+    geometry: &Geometry,
+    old: &Chosen,
+    snapshot: &[u8],
+) -> Result<Chosen, RollError>
+    requires is_known { D.known dev.old }
+    requires same_geometry { geometry.now ≡ D.geometry dev.old }
+    requires is_metadata { old.now.zone < 3 }
+    requires flags { old.now.superblock.flags ≤ 1 }
+    requires selected { D.tells → selected_log (D.image dev.old) ≡ Ok old.now }
+    requires snapshot { IsSnapshot snapshot.now }
+    requires allowed { roll_refusal geometry.now old.now (length snapshot.now) ≡ Ok tt }
+    requires active { active_zones (drop 3 (D.infos dev.old)) < geometry.now.active_limit }
+
+    ensures refused { RefusesAs (roll_refusal geometry.now old.now (length snapshot.now)) result }
+    ensures unwritten { IsUnwritten result → dev.new ≡ dev.old }
+
+    ensures chosen { IfOk result (λ chosen. chosen ≡ next_chosen old.now) }
+    ensures infos { OnOk result (D.infos dev.new ≡ rolled_infos (D.infos dev.old) (next_zone old.now.zone)
+        (blocks_of geometry.now.block 512 + blocks_of geometry.now.block (length snapshot.now))) }
+    ensures image { OnOk result (D.tells → D.image dev.new ≡ rolled_image (D.image dev.old) (next_zone old.now.zone)
+        (record_blocks geometry.now.block (superblock_bytes (next_superblock old.now)) ++ record_blocks geometry.now.block snapshot.now)) }
+    ensures log { OnOk result (D.tells → HasNewLog (next_zone old.now.zone) (next_superblock old.now) snapshot.now (D.image dev.new)) }
+    ensures selects { OnOk result (D.tells → selected_log (D.image dev.new) ≡ Ok (next_chosen old.now)) }
+
+    ensures device { ChangesDevice D.known D.geometry D.tells D.image D.tick D.since D.faults D.failed_changes dev.old dev.new (IsErrOf result RollError.DevFault)
+        (LeftByRoll old.now snapshot.now (D.image dev.old)) }
+{
+    match RollBuffer::new(alloc, geometry, snapshot.len() as u64) {
+        Ok(mut buffer) => roll_with(dev, geometry, old, snapshot, &mut buffer),
+        Err(_) => Err(RollError::NoMemory),
+    }
 }
 
 /// Rolls a log: all blocks are made durable, the other two metadata zones are emptied, the old log gets an end record
@@ -212,12 +252,10 @@ pub fn roll<D: ZonedDevice>(
     ensures selects { OnOk result (D.tells → selected_log (D.image dev.new) ≡ Ok (next_chosen old.now)) }
 
     ensures device { ChangesDevice D.known D.geometry D.tells D.image D.tick D.since D.faults D.failed_changes dev.old dev.new (IsErrOf result RollError.DevFault)
-        (λ _. Unit {0}) }
+        (LeftByRoll old.now snapshot.now (D.image dev.old)) }
 {
-    refusal(geometry, old, snapshot.len() as u64)?;
-    let mut buffer = match RollBuffer::new(alloc, geometry, snapshot.len() as u64) {
-        Ok(buffer) => buffer,
-        Err(_) => return Err(RollError::NoMemory),
-    };
-    roll_with(dev, geometry, old, snapshot, &mut buffer)
+    match refusal(geometry, old, snapshot.len() as u64) {
+        Ok(()) => roll_taking(alloc, dev, geometry, old, snapshot),
+        Err(why) => Err(why),
+    }
 }
