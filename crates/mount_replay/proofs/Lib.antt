@@ -1,3 +1,4 @@
 pub mod OverlapLaws
 pub mod FrameWalks
 pub mod RecoveryLaws
+pub mod FoldLaws

@@ -1,3 +1,5 @@
 pub mod Neighbours
 pub mod Rules
 pub mod FrameWalk
+pub mod Folding
+pub mod Payloads

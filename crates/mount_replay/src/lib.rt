@@ -3,8 +3,10 @@
 
 mod error;
 mod frames;
+mod log;
 mod overlap;
 mod recovered;
+mod records;
 mod rules;
 
 pub use error::ReplayError;
