@@ -11,6 +11,8 @@ mod roll_error;
 mod roll_steps;
 mod rolling;
 mod steps;
+#[cfg(test)]
+mod tests;
 
 pub use buffer::RollBuffer;
 pub use formatting::format;
