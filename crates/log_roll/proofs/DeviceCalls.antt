@@ -9,7 +9,8 @@ use Rattle.zone_image.specs.Image.{Image, IsCrash}
 use Rattle.zone_image.specs.Changes.{appended, finished, emptied, synced}
 use Rattle.zone_image.specs.Infos.{infos_emptied, infos_finished, IsZone, IsPossible, IsImage, IsValidImage, Shows, ShowsSome}
 use Rattle.zone_image.specs.Moments.{PassedByAppend, PassedByFinish, PassedByReset, KeepsMoments}
-use Rattle.zone_image.specs.Counts.{Counts, next_count}
+use Rattle.zone_image.specs.Reads.{OnlyReads}
+use Rattle.zone_image.specs.Counts.{Counts, HasCause, next_count}
 use Rattle.zone_image.proofs.CrashLaws.{crash_before_sync}
 use Rattle.zone_image.proofs.MomentLaws.{stays, goes_on, weaker}
 use Rattle.log_roll.specs.DeviceSteps.{ChangesDevice, MayCount, Then}
@@ -117,3 +118,15 @@ module _ {D : Type 0} {known : D → Type 0} {geometry : D → Geometry} {tells 
   pub first_done : {a b : D} {F : Type 0} (First Second : Image → Image → Type 0) (made : Image → Image) → ChangesDevice known geometry tells image tick since faults failed_changes a b F (First (image a))
       → ChangesDevice known geometry tells image tick since faults failed_changes a b F (Then First made Second (image a))
   first_done {a} First Second made first = done_as _ (Then First made Second (image a)) first (λ f. f) (λ f. f) (λ j told p. inl p)
+
+  -- a part that only reads
+  pub only_read : {a b : D} {infos : D → List ZoneInfo} {F : Type 0} → OnlyReads known geometry infos tells image tick since failed_changes a b → HasCause (faults a) (faults b) F
+      → ChangesDevice known geometry tells image tick since faults failed_changes a b F (IsCrash (image a))
+  only_read {a} reads cause = record {
+    still_known = reads.still_known;
+    same_geometry = reads.same_geometry;
+    passes = reads.passes;
+    stands = λ told j crash. subst (λ i. IsCrash i j) (reads.same_image told) crash;
+    cause = cause;
+    changes = inl reads.same_changes;
+  }

@@ -1,6 +1,6 @@
 -- The selection where at most one metadata zone has records.
-use Rattle.std.specs.Prelude.{◌≡◌, ◌≢◌, ℕ, zero, suc, ◌+◌, ◌-◌, ◌<◌, ◌≤◌, max, Bool, true, false, cond, List, [], ◌∷◌, ◌++◌, length, take, slice_set, Option, Some, None, Result, Ok, Err, ◌==◌, refl}
-use Rattle.std.proofs.Common.{◌∙◌, ap, sym, subst, ⊎_elim, arith}
+use Rattle.std.specs.Prelude.{◌≡◌, ◌≢◌, ℕ, zero, suc, ◌+◌, ◌-◌, ◌<◌, max, true, false, cond, List, [], ◌∷◌, ◌++◌, length, take, slice_set, Option, Some, None, Result, Ok, Err, refl}
+use Rattle.std.proofs.Common.{◌∙◌, ap, subst, ⊎_elim, arith}
 use Rattle.std.proofs.lemmas.Bool.{eq-eqb, cases_lt}
 use Rattle.std.proofs.lemmas.List.{take-append-le}
 use Rattle.zone_image.specs.declared.Geometry.{Geometry}
@@ -16,7 +16,7 @@ use Rattle.log_model.specs.declared.selection.Refusal.TheVariants.{NoFileSystem,
 use Rattle.log_model.specs.LogScan.{Scan, ScanEnd, blocks_of, record_blocks, scan, scan_from, scan_within, with_payload}
 use Rattle.log_model.specs.LogScan.ScanEnd.{Clean, Torn, Bad}
 use Rattle.log_model.specs.ScanLaws.{is_bad, IsRecordOf}
-use Rattle.log_model.specs.LogSelection.{LogAt, fits_device, log_with, log_of_zone, logs_from, add_log, snapshot_in, is_snapshot, has_snapshot, decides, counts, undamaged, newest, select_among, select_log, selected_log, scans_of, chosen_of}
+use Rattle.log_model.specs.LogSelection.{LogAt, fits_device, log_with, log_of_zone, add_log, snapshot_in, is_snapshot, has_snapshot, decides, counts, undamaged, newest, select_among, select_log, selected_log, scans_of, chosen_of}
 use Rattle.log_model.specs.LogChangeLaws.{no_records}
 use Rattle.log_model.specs.AppendLaws.{IsSelectedOn}
 use Rattle.log_model.proofs.RecordLaws.{length_record, record_is_found, scan_record, scan_first_blocks}

@@ -1,8 +1,6 @@
 -- The log that is selected while a new one is begun beside it.
-use Rattle.std.specs.Prelude.{◌≡◌, ◌≢◌, ℕ, zero, suc, ◌+◌, ◌-◌, ◌<◌, ◌≤◌, ◌⊎◌, max, Bool, true, false, not, ◌&&◌, cond, List, [], ◌∷◌, ◌++◌, length, take, Option, Some, None, Result, Ok, Err, filter, refl}
-use Rattle.std.proofs.Common.{◌∙◌, ap, sym, subst, inl, inr, ⊎_elim, arith}
-use Rattle.std.proofs.lemmas.Bool.{cases_eq}
-use Rattle.zone_image.specs.declared.Geometry.{Geometry}
+use Rattle.std.specs.Prelude.{◌≡◌, ◌≢◌, ℕ, ◌<◌, ◌≤◌, max, Bool, true, false, not, ◌&&◌, cond, List, [], ◌∷◌, Option, Some, None, Result, Ok, Err, filter, refl}
+use Rattle.std.proofs.Common.{◌∙◌, ap, sym, ⊎_elim, arith}
 use Rattle.zone_image.specs.Image.{Zone, Image, no_zone, zone_at}
 use Rattle.zone_image.specs.Changes.{emptied, synced}
 use Rattle.record_model.specs.FieldDecoding.{◌>>=◌}
@@ -11,13 +9,13 @@ use Rattle.log_model.specs.declared.selection.Refusal.{Refusal}
 use Rattle.log_model.specs.LogScan.{Scan, ScanEnd, scan, is_clean, has_end}
 use Rattle.log_model.specs.LogScan.ScanEnd.{Clean, Torn, Bad}
 use Rattle.log_model.specs.LogSelection.{LogAt, log_of_zone, add_log, has_snapshot, counts, newest, undamaged, greatest_sequence, select_among, select_log, selected_log, scans_of, chosen_of}
-use Rattle.log_model.specs.AppendLaws.{scan_at, IsSelectedOn, DiffersIn}
+use Rattle.log_model.specs.AppendLaws.{IsSelectedOn, DiffersIn}
 use Rattle.log_model.proofs.NewLogLaws.{other_may_be_reset}
 use Rattle.log_model.proofs.SelectionLaws.{undamaged_is, newest_sequence, sequence_of}
 use Rattle.log_model.proofs.SelectedLog.{Selected, selected_from, ok_is}
 use Rattle.log_roll.specs.Resets.{emptied_two}
 use Rattle.log_roll.specs.Rolling.{next_zone, third_zone}
-use Rattle.log_roll.proofs.LoneLogs.{IsLone, lone, select_lone, scans_lone}
+use Rattle.log_roll.proofs.LoneLogs.{IsLone, select_lone, scans_lone}
 use Rattle.log_roll.proofs.Rolled.{next_is_other, other_two}
 use Rattle.log_roll.proofs.RollStages.{Stage, emptied_zone, synced_zone}
 use Rattle.log_roll.proofs.ZoneChanges.{other_zone}

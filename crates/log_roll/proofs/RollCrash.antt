@@ -1,25 +1,24 @@
 -- What a crash leaves of a device whose log is rolled.
-use Rattle.std.specs.Prelude.{◌≡◌, ◌≢◌, ℕ, zero, suc, ◌+◌, ◌-◌, ◌<◌, ◌≤◌, ◌⊎◌, min, Bool, true, false, cond, List, [], ◌∷◌, ◌++◌, length, map, take, drop, Ok, refl}
+use Rattle.std.specs.Prelude.{◌≡◌, ◌≢◌, ℕ, zero, suc, ◌+◌, ◌-◌, ◌<◌, ◌≤◌, ◌⊎◌, min, Bool, true, false, cond, List, [], ◌∷◌, ◌++◌, length, map, take, drop, refl}
 use Rattle.std.proofs.Common.{◌∙◌, ap, sym, subst, inl, inr, ⊎_elim, arith}
 use Rattle.std.specs.List.{AllZip}
 use Rattle.std.proofs.lemmas.Bool.{cases_eq, cases_lt}
-use Rattle.std.proofs.lemmas.List.{take_all, take-append-le, append-nil, length-append}
+use Rattle.std.proofs.lemmas.List.{take_all, take-append-le, append-nil}
 use Rattle.zone_image.specs.declared.Geometry.{Geometry}
 use Rattle.zone_image.specs.Image.{Zone, Image, ZoneCrash, IsCrash, no_zone, zone_at}
-use Rattle.zone_image.specs.Changes.{appended, emptied, finished, synced, zone_synced}
+use Rattle.zone_image.specs.Changes.{appended, emptied, synced, zone_synced}
 use Rattle.zone_image.specs.Infos.{IsValidImage, info_of}
 use Rattle.zone_image.specs.Moments.{PassedByAppend}
 use Rattle.zone_image.proofs.CrashLaws.{crash_before_sync, synced_is_crash, crash-crash}
 use Rattle.record_model.specs.Numbers.{u32}
-use Rattle.record_model.specs.declared.types.Record.TheVariants.{Snapshot}
 use Rattle.superblock_core.specs.Superblock.{superblock_bytes}
 use Rattle.superblock_core.specs.declared.superblock.Superblock.{Superblock}
 use Rattle.log_model.specs.declared.selection.Chosen.{Chosen}
-use Rattle.log_model.specs.LogScan.{Scan, blocks_of, record_blocks, has_end}
+use Rattle.log_model.specs.LogScan.{Scan, blocks_of, record_blocks}
 use Rattle.log_model.specs.LogScan.ScanEnd.{Clean}
 use Rattle.log_model.specs.ScanLaws.{IsRecordOf}
-use Rattle.log_model.specs.LogSelection.{LogAt, selected_log}
-use Rattle.log_model.specs.AppendLaws.{IsSelectedOn, DiffersIn, AppendsTo}
+use Rattle.log_model.specs.LogSelection.{LogAt}
+use Rattle.log_model.specs.AppendLaws.{IsSelectedOn, AppendsTo}
 use Rattle.log_model.specs.NewLogLaws.{IsNextSuperblock, FillsZone}
 use Rattle.log_model.proofs.AppendLaws.{record_behind_selected}
 use Rattle.log_model.proofs.NewLogLaws.{part_of_superblock, part_of_snapshot, whole_snapshot}
@@ -28,8 +27,8 @@ use Rattle.log_model.proofs.CrashLaws.{crashed_zone, durable_zone_stays, take_pa
 use Rattle.log_model.proofs.RecordCrash.{take_twice}
 use Rattle.log_roll.specs.Resets.{emptied_two}
 use Rattle.log_roll.specs.NewLog.{begun}
-use Rattle.log_roll.specs.FormatLeaves.{HasLogs, HasNewLog, SameData}
-use Rattle.log_roll.specs.RollLeaves.{KeepsLog, LeftByRoll, MayEnd, RollLeaves}
+use Rattle.log_roll.specs.FormatLeaves.{SameData}
+use Rattle.log_roll.specs.RollLeaves.{LeftByRoll, MayEnd, RollLeaves}
 use Rattle.log_roll.specs.Rolling.{PassedByOld, PassedByReplace, PassedByRoll, end_blocks, ended, gets_end, next_superblock, next_zone, old_closed, rolled_image, third_zone}
 use Rattle.log_roll.proofs.LoneLogs.{IsLone, IsSuperblock}
 use Rattle.log_roll.proofs.Closing.{may_end}
@@ -37,7 +36,7 @@ use Rattle.log_roll.proofs.SelectedFacts.{Selection, selection_of, selection_the
 use Rattle.log_roll.proofs.ZoneChanges.{other_zone}
 use Rattle.log_roll.proofs.Rolled.{drop_changed, image_rolled, next_is_other, other_two}
 use Rattle.log_roll.proofs.RollStages.{Stage, Left, emptied_zone, rest_emptied, rest_synced, stage_crash, stage_end, stage_finish, stage_next, stage_started, stage_synced, rest_same, take_none, zip_drop}
-use Rattle.log_roll.proofs.RollBase.{Started, can_end_facts, emptied_differs, same_selection, selected_at_most, started_selection, synced_selected}
+use Rattle.log_roll.proofs.RollBase.{Started, can_end_facts, same_selection, selected_at_most, started_selection, synced_selected}
 use Rattle.log_roll.proofs.RollSelects.{IsNext, new_log_selected, next_superblock_is, rolled_lone, snapshot_is}
 
 -- the zone behind the next one is another

@@ -1,21 +1,16 @@
 -- The log that is selected after a roll.
-use Rattle.std.specs.Prelude.{◌≡◌, ◌≢◌, ℕ, zero, suc, ◌+◌, ◌^◌, ◌<◌, ◌≤◌, Bool, true, false, not, ◌&&◌, ◌||◌, List, [], ◌∷◌, ◌++◌, length, drop, Ok, IsTrue, refl}
+use Rattle.std.specs.Prelude.{◌≡◌, ◌≢◌, ℕ, zero, suc, ◌+◌, ◌^◌, ◌<◌, ◌≤◌, true, false, not, ◌&&◌, ◌||◌, List, [], ◌++◌, length, Ok, IsTrue, refl}
 use Rattle.std.specs.Str.{bytes_eq}
 use Rattle.std.proofs.Common.{◌∙◌, ap, sym, subst, arith}
 use Rattle.std.proofs.lemmas.Grind.{common_steps}
 use Rattle.zone_image.specs.declared.Geometry.{Geometry}
-use Rattle.zone_image.specs.Image.{Zone, Image, is_valid, no_zone, zone_in, zone_at}
-use Rattle.zone_image.specs.Changes.{change_at, synced}
-use Rattle.record_model.specs.Decoding.{record_of}
+use Rattle.zone_image.specs.Image.{Image, is_valid, zone_at}
 use Rattle.record_model.specs.Numbers.{u32}
 use Rattle.record_model.specs.declared.types.Record.TheVariants.{Snapshot}
 use Rattle.superblock_core.specs.Superblock.{superblock_bytes, superblock_of}
-use Rattle.superblock_core.specs.declared.superblock.Superblock.{Superblock}
 use Rattle.log_model.specs.declared.selection.Chosen.{Chosen}
 use Rattle.log_model.specs.LogScan.{blocks_of, record_blocks}
-use Rattle.log_model.specs.LogScan.ScanEnd.{Clean}
 use Rattle.log_model.specs.ScanLaws.{IsRecordOf}
-use Rattle.log_model.specs.Format.{durable_zone}
 use Rattle.log_model.specs.LogSelection.{fits_device, selected_log, chosen_of}
 use Rattle.record_model.specs.FieldDecoding.{◌>>=◌}
 use Rattle.log_roll.specs.FormatLeaves.{HasNewLog}

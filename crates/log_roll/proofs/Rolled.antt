@@ -1,5 +1,5 @@
 -- The zones after the steps of a roll.
-use Rattle.std.proofs.Common.{◌≡◌, ◌≢◌, ℕ, zero, suc, ◌+◌, ◌%◌, ◌<◌, ◌≤◌, ◌⊎◌, inl, inr, ⊎_elim, Bool, true, false, not, ◌&&◌, ◌||◌, ◌==◌, cond, List, [], ◌∷◌, ◌++◌, length, map, drop, get_or, ltb, refl, sym, ◌∙◌, ap, subst, arith}
+use Rattle.std.proofs.Common.{◌≡◌, ◌≢◌, ℕ, zero, suc, ◌+◌, ◌<◌, ◌⊎◌, inl, inr, ⊎_elim, Bool, true, false, not, ◌&&◌, ◌||◌, ◌==◌, cond, List, [], ◌∷◌, ◌++◌, length, map, drop, ltb, refl, sym, ◌∙◌, ap, subst, arith}
 use Rattle.std.proofs.lemmas.Bool.{cases_eq, ne_eqb}
 use Rattle.std.proofs.lemmas.List.Sums.{sum_by-cons}
 use Rattle.zone_image.specs.declared.Geometry.{Geometry}
@@ -10,7 +10,7 @@ use Rattle.zone_image.specs.Infos.{no_info, info_of, info_at, is_active_info, ac
 use Rattle.zone_image.proofs.ImageLaws.{length-change_at}
 use Rattle.log_roll.specs.NewLog.{begun, infos_begun}
 use Rattle.log_roll.specs.Resets.{emptied_two, infos_emptied_two}
-use Rattle.log_roll.specs.Rolling.{next_zone, third_zone, gets_end, end_blocks, infos_ended, infos_old_closed, old_closed, rolled_image, rolled_infos}
+use Rattle.log_roll.specs.Rolling.{next_zone, third_zone, gets_end, end_blocks, infos_old_closed, old_closed, rolled_image, rolled_infos}
 use Rattle.log_roll.proofs.Blanking.{put_here, stays_put}
 use Rattle.log_roll.proofs.Formatted.{begun_zone}
 use Rattle.log_roll.proofs.ZoneChanges.{changed_item, other_item}

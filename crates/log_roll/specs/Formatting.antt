@@ -1,8 +1,14 @@
 -- What formatting a device passes.
-use Rattle.std.specs.Prelude.{ℕ, List}
+use Rattle.std.specs.Prelude.{◌≡◌, ℕ, ◌⊎◌, List, [], ◌∷◌}
 use Rattle.zone_image.specs.declared.Geometry.{Geometry}
 use Rattle.zone_image.specs.Image.{Image, IsCrash}
 use Rattle.zone_image.specs.Changes.{blank, synced}
+use Rattle.record_model.specs.Encoding.{payload_of}
+use Rattle.record_model.specs.declared.types.Record.TheVariants.{Snapshot}
+use Rattle.superblock_core.specs.Superblock.{superblock_bytes}
+use Rattle.superblock_core.specs.declared.superblock.Superblock.{Superblock}
+use Rattle.log_model.specs.LogScan.{record_blocks}
+use Rattle.log_model.specs.Format.{reset_order}
 use Rattle.log_roll.specs.DeviceSteps.{Then}
 use Rattle.log_roll.specs.Resets.{CrashesMetadata, PassedByThreeResets, emptied_three}
 use Rattle.log_roll.specs.NewLog.{PassedByNewLog, begun}
@@ -24,3 +30,15 @@ PassedByFirstLog superblock snapshot = Then (PassedByNewLog 0 superblock snapsho
 abbrev pub PassedByFormat : Geometry → ℕ → ℕ → ℕ → List (List ℕ) → List (List ℕ) → Image → Image → Type 0
 PassedByFormat g first second third superblock snapshot =
     Then (PassedByEmptying first second third) (λ _. blank g) (PassedByFirstLog superblock snapshot)
+
+-- The same with the metadata zones in their order: those that don't begin with a superblock that can be read, and then the others by rising sequence.
+pub record PassedInOrder (g : Geometry) (s : Superblock) (i j : Image) : Type 0 where
+  pub first : ℕ
+  pub second : ℕ
+  pub third : ℕ
+  pub order : (first ∷ second ∷ third ∷ []) ≡ reset_order i
+  pub passed : PassedByFormat g first second third (record_blocks g.block (superblock_bytes s)) (record_blocks g.block (payload_of (Snapshot []))) i j
+
+-- what a crash leaves at some moment of formatting
+abbrev pub LeftByFormat : Geometry → Superblock → Image → Image → Type 0
+LeftByFormat g s i j = IsCrash i j ⊎ PassedInOrder g s i j

@@ -1,10 +1,10 @@
 -- How a log is rolled.
-use Rattle.std.specs.Prelude.{◌≡◌, ℕ, ◌+◌, ◌-◌, ◌%◌, ◌^◌, ◌<◌, ◌⊎◌, Bool, true, false, not, ◌&&◌, List, [], ◌∷◌, ◌++◌, length, drop, codes, Result, Ok, Err, nat_lt, ◌==◌, if◌then◌else◌}
+use Rattle.std.specs.Prelude.{◌≡◌, ℕ, ◌+◌, ◌-◌, ◌%◌, ◌^◌, ◌⊎◌, Bool, true, false, not, ◌&&◌, List, [], ◌∷◌, ◌++◌, drop, codes, Result, Ok, Err, nat_lt, ◌==◌, if◌then◌else◌}
 use Rattle.zone_image.specs.declared.Geometry.{Geometry}
 use Rattle.zone_image.specs.declared.ZoneInfo.{ZoneInfo}
-use Rattle.zone_image.specs.Image.{Zone, Image, IsCrash, no_zone, zone_at}
-use Rattle.zone_image.specs.Changes.{change_at, appended, emptied, finished, synced}
-use Rattle.zone_image.specs.Infos.{no_info, info_at, info_of, infos_appended, infos_emptied, infos_finished}
+use Rattle.zone_image.specs.Image.{Image, IsCrash, no_zone, zone_at}
+use Rattle.zone_image.specs.Changes.{change_at, appended, finished, synced}
+use Rattle.zone_image.specs.Infos.{no_info, info_at, info_of, infos_appended, infos_finished}
 use Rattle.zone_image.specs.Moments.{PassedByAppend, PassedByFinish, PassedByReset}
 use Rattle.record_model.specs.Decoding.{record_of}
 use Rattle.record_model.specs.Numbers.{u32}
@@ -16,9 +16,9 @@ use Rattle.log_model.specs.LogScan.{blocks_of, record_blocks}
 use Rattle.log_model.specs.Format.{durable_zone}
 use Rattle.log_roll.specs.DeviceSteps.{Then}
 use Rattle.log_roll.specs.Resets.{PassedByTwoResets, emptied_two, infos_emptied_two}
-use Rattle.log_roll.specs.NewLog.{PassedByNewLog, begun, infos_begun}
+use Rattle.log_roll.specs.NewLog.{PassedByNewLog, begun}
 use Rattle.log_roll.specs.declared.roll_error.RollError.{RollError}
-use Rattle.log_roll.specs.declared.roll_error.RollError.TheVariants.{SequenceEnd, MetaFull, DevFault, NoMemory}
+use Rattle.log_roll.specs.declared.roll_error.RollError.TheVariants.{SequenceEnd, MetaFull, DevFault}
 
 -- a value of what has none
 abbrev pub NoValue : Type 0

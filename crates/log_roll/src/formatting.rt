@@ -4,12 +4,12 @@ ghost use Rattle.zone_image.specs.Changes.{blank, synced};
 ghost use Rattle.zone_image.specs.Infos.{infos_blank, infos_of};
 ghost use Rattle.superblock_core.specs.Superblock.{fits};
 ghost use Rattle.log_model.specs.LogScan.{blocks_of, record_blocks};
-ghost use Rattle.log_model.specs.Format.{formatted_image};
+ghost use Rattle.log_model.specs.Format.{formatted_image, reset_order};
 ghost use Rattle.log_roll.specs.DeviceSteps.{ChangesDevice};
 ghost use Rattle.log_roll.specs.Resets.{emptied_three, infos_emptied_three};
 ghost use Rattle.log_roll.specs.NewLog.{begun, infos_begun};
-ghost use Rattle.log_roll.specs.FormatOrder.{AreMetadata};
-ghost use Rattle.log_roll.specs.Formatting.{PassedByEmptying, PassedByFirstLog, PassedByFirstResets, PassedByFormat};
+ghost use Rattle.log_roll.specs.FormatOrder.{AreMetadata, zones_of};
+ghost use Rattle.log_roll.specs.Formatting.{LeftByFormat, PassedByEmptying, PassedByFirstLog, PassedByFirstResets, PassedByFormat};
 
 use crate::order::{ResetOrder, reset_order};
 use crate::records::begin_log;
@@ -121,6 +121,41 @@ fn format_memory(alloc: Global, block: u32) -> Result<Vec<u8>, AllocError>
     Vec::with_capacity(alloc, size)
 }
 
+// The same with the metadata zones in this order.
+fn format_in_order<D: ZonedDevice>(
+    alloc: Global,
+    dev: &mut D,
+    geometry: &Geometry,
+    superblock: &Superblock,
+    order: ResetOrder,
+) -> Result<(), LogError>
+    requires is_known { D.known dev.old }
+    requires same_geometry { geometry.now ≡ D.geometry dev.old }
+    requires ordered { D.tells → zones_of order ≡ reset_order (D.image dev.old) }
+    requires all { AreMetadata order.first order.second order.third }
+    requires flags { superblock.now.flags ≤ 1 }
+    requires first { superblock.now.sequence ≡ 1 }
+    requires fits { IsTrue (fits superblock.now geometry.now) }
+    ensures infos { OnOk result (D.infos dev.new ≡ infos_of (formatted_image geometry.now superblock.now)) }
+    ensures image { OnOk result (D.tells → D.image dev.new ≡ formatted_image geometry.now superblock.now) }
+
+    ensures memory { IsErrOf result LogError.NoMemory → (D.infos dev.new ≡ D.infos dev.old) × (D.tells → D.image dev.new ≡ D.image dev.old) }
+
+    ensures device { ChangesDevice D.known D.geometry D.tells D.image D.tick D.since D.faults D.failed_changes dev.old dev.new (IsErrOf result LogError.DevFault)
+        (LeftByFormat geometry.now superblock.now (D.image dev.old)) }
+{
+    let mut bytes = match format_memory(alloc, geometry.block) {
+        Ok(bytes) => bytes,
+        Err(_) => return Err(LogError::NoMemory),
+    };
+    let mut block = [0; SUPERBLOCK_BYTES];
+    superblock.encode(&mut block);
+    match write_format(dev, geometry, order, &block, &mut bytes) {
+        Ok(()) => Ok(()),
+        Err(_) => Err(LogError::DevFault),
+    }
+}
+
 /// Makes an empty file system on a device. What stood there is gone: all blocks are made durable, the metadata
 /// zones are reset, first those that don't begin with a superblock that can be read and then the others by rising
 /// sequence, then each data zone that has a block or a seal, and the superblock and an empty snapshot are written
@@ -144,17 +179,10 @@ pub fn format<D: ZonedDevice>(
     ensures memory { IsErrOf result LogError.NoMemory → (D.infos dev.new ≡ D.infos dev.old) × (D.tells → D.image dev.new ≡ D.image dev.old) }
 
     ensures device { ChangesDevice D.known D.geometry D.tells D.image D.tick D.since D.faults D.failed_changes dev.old dev.new (IsErrOf result LogError.DevFault)
-        (λ _. Unit {0}) }
+        (LeftByFormat geometry.now superblock.now (D.image dev.old)) }
 {
-    let order = reset_order(alloc, dev, geometry)?;
-    let mut bytes = match format_memory(alloc, geometry.block) {
-        Ok(bytes) => bytes,
-        Err(_) => return Err(LogError::NoMemory),
-    };
-    let mut block = [0; SUPERBLOCK_BYTES];
-    superblock.encode(&mut block);
-    match write_format(dev, geometry, order, &block, &mut bytes) {
-        Ok(()) => Ok(()),
-        Err(_) => Err(LogError::DevFault),
+    match reset_order(alloc, dev, geometry) {
+        Ok(order) => format_in_order(alloc, dev, geometry, superblock, order),
+        Err(fault) => Err(fault),
     }
 }

@@ -21,6 +21,8 @@ mod rolling;
 mod select;
 mod steps;
 mod summary;
+#[cfg(test)]
+mod tests;
 
 pub use beginnings::begins;
 pub use buffer::RollBuffer;

@@ -1,25 +1,20 @@
-use Rattle.std.proofs.Common.{◌<◌, [], ◌∷◌, sym, subst, refl, ◌∙◌, IsTrue, arith}
-use Rattle.zone_image.specs.declared.Geometry.{Geometry}
-use Rattle.zone_image.specs.Image.{is_valid}
-use Rattle.log_roll.proofs.Formatted.{formatted_is, formatted_infos, empty_snapshot}
+use Rattle.std.proofs.Common.{inl, subst}
+use Rattle.log_roll.specs.Formatting.{LeftByFormat}
+use Rattle.log_roll.proofs.DeviceCalls.{done_as, done_then, only_read}
 use Rattle.log_roll.proofs.formatting.format.Goals as goal
 
-pub returns-in-Ok-write_format-clause-infos : goal.returns-in-Ok-write_format-clause-infos
-returns-in-Ok-write_format-clause-infos g c =
+pub returns-in-Ok-clause-device : goal.returns-in-Ok-clause-device
+returns-in-Ok-clause-device g c =
     let D = g.D.ZonedDevice in
     let dev = c.args.dev.now in
-    let shape : Geometry = c.args.geometry.now in
-    let valid : IsTrue (is_valid shape) = subst (λ s. IsTrue (is_valid s)) (sym c.requires.same_geometry) (g.met.D.ZonedDevice.possible dev c.requires.is_known).valid in
-    let some : 0 < shape.zones = grind (arith, valid) in
-    c.in-Ok-write_format.ensures.infos
-    ∙ formatted_infos shape c.args.superblock.now c.encode.new.out (1 ∷ 0 ∷ 0 ∷ 0 ∷ 0 ∷ []) some valid c.encode.array_long c.encode.ensures.bytes empty_snapshot refl
+    done_then g.met.D.ZonedDevice.moments (LeftByFormat c.args.geometry.now c.args.superblock.now (D.image dev))
+    (only_read g.met.D.ZonedDevice.moments c.in-Ok.ensures.device c.in-Ok.ensures.cause) (λ failed. cc) c.format_in_order.ensures.device
+    (λ j told crash. inl crash)
+    (λ j told left. subst (λ i. LeftByFormat c.args.geometry.now c.args.superblock.now i j) (c.in-Ok.ensures.device.same_image told) left)
 
-pub returns-in-Ok-write_format-clause-image : goal.returns-in-Ok-write_format-clause-image
-returns-in-Ok-write_format-clause-image g c = λ told.
+pub returns-in-Err-clause-device : goal.returns-in-Err-clause-device
+returns-in-Err-clause-device g c =
     let D = g.D.ZonedDevice in
     let dev = c.args.dev.now in
-    let shape : Geometry = c.args.geometry.now in
-    let valid : IsTrue (is_valid shape) = subst (λ s. IsTrue (is_valid s)) (sym c.requires.same_geometry) (g.met.D.ZonedDevice.possible dev c.requires.is_known).valid in
-    let some : 0 < shape.zones = grind (arith, valid) in
-    c.in-Ok-write_format.ensures.image told
-    ∙ formatted_is shape c.args.superblock.now c.encode.new.out (1 ∷ 0 ∷ 0 ∷ 0 ∷ 0 ∷ []) some valid c.encode.array_long c.encode.ensures.bytes empty_snapshot refl
+    done_as g.met.D.ZonedDevice.moments _ (LeftByFormat c.args.geometry.now c.args.superblock.now (D.image dev))
+    (only_read g.met.D.ZonedDevice.moments c.in-Err.ensures.device c.in-Err.ensures.cause) (λ failed. (cc)) (λ failed. (cc)) (λ j told crash. inl crash)

@@ -1,4 +1,4 @@
-use Rattle.std.proofs.Common.{◌≡◌, ◌∙◌, inr, subst, ap, sym}
+use Rattle.std.proofs.Common.{◌≡◌, ◌∙◌, inr, subst, sym}
 use Rattle.zone_image.specs.declared.Geometry.{Geometry}
 use Rattle.zone_image.specs.Moments.{PassedByAppend}
 use Rattle.log_roll.specs.Rolling.{PassedByEnd, end_blocks, ended}

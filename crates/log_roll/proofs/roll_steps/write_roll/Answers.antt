@@ -1,12 +1,11 @@
 use Rattle.std.proofs.Common.{◌≡◌, ◌+◌, ◌++◌, ◌<◌, length, ap, sym, subst, ◌∙◌, arith}
 use Rattle.zone_image.specs.declared.Geometry.{Geometry}
-use Rattle.zone_image.specs.Image.{Image}
 use Rattle.zone_image.specs.Changes.{emptied, synced}
-use Rattle.zone_image.specs.Infos.{info_at, active_zones, infos_emptied, no_info}
+use Rattle.zone_image.specs.Infos.{info_at, active_zones, infos_emptied}
 use Rattle.log_model.specs.LogScan.{blocks_of, record_blocks}
 use Rattle.log_model.proofs.RecordLaws.{length_record}
 use Rattle.log_roll.specs.NewLog.{begun, infos_begun}
-use Rattle.log_roll.specs.Rolling.{PassedByOld, PassedByReplace, infos_old_closed, next_zone, old_closed, rolled_image, rolled_infos}
+use Rattle.log_roll.specs.Rolling.{PassedByOld, PassedByReplace, next_zone, old_closed, rolled_image, rolled_infos}
 use Rattle.log_roll.proofs.DeviceCalls.{both_done, first_done}
 use Rattle.log_roll.proofs.Blanking.{ok_then}
 use Rattle.log_roll.proofs.ZoneChanges.{zones_of_image}

@@ -1,4 +1,3 @@
-use Rattle.std.proofs.Common.{length}
 use Rattle.log_roll.specs.RollLeaves.{LeftByRoll}
 use Rattle.log_roll.proofs.DeviceCalls.{done_as, nothing_done}
 use Rattle.log_roll.proofs.RollCrash.{crash_is_old}

@@ -1,4 +1,4 @@
-use Rattle.std.proofs.Common.{◌≡◌, ◌++◌, ◌<◌, ℕ, List, Ok, refl, IsTrue, length, ap, sym, subst, ◌∙◌, arith}
+use Rattle.std.proofs.Common.{◌≡◌, ◌++◌, ℕ, List, Ok, refl, IsTrue, length, ap, sym, subst, ◌∙◌}
 use Rattle.zone_image.specs.declared.Geometry.{Geometry}
 use Rattle.zone_image.specs.Image.{Image, is_valid}
 use Rattle.record_model.specs.declared.types.Record.TheVariants.{Snapshot}

@@ -1,0 +1,70 @@
+use Rattle.std.proofs.Common.{ap, inl, inr, ◌<◌, [], ◌∷◌, sym, subst, refl, ◌∙◌, IsTrue, arith}
+use Rattle.zone_image.specs.declared.Geometry.{Geometry}
+use Rattle.zone_image.specs.Image.{is_valid}
+use Rattle.record_model.specs.Encoding.{payload_of}
+use Rattle.record_model.specs.declared.types.Record.TheVariants.{Snapshot}
+use Rattle.log_model.specs.LogScan.{record_blocks}
+use Rattle.log_roll.specs.Formatting.{LeftByFormat, PassedByFormat}
+use Rattle.log_roll.proofs.DeviceCalls.{done_as, nothing_done}
+use Rattle.log_roll.proofs.Formatted.{formatted_is, formatted_infos, empty_snapshot}
+use Rattle.log_roll.proofs.formatting.format_in_order.Goals as goal
+
+pub returns-in-Ok-write_format-clause-infos : goal.returns-in-Ok-write_format-clause-infos
+returns-in-Ok-write_format-clause-infos g c =
+    let D = g.D.ZonedDevice in
+    let dev = c.args.dev.now in
+    let shape : Geometry = c.args.geometry.now in
+    let valid : IsTrue (is_valid shape) = subst (λ s. IsTrue (is_valid s)) (sym c.requires.same_geometry) (g.met.D.ZonedDevice.possible dev c.requires.is_known).valid in
+    let some : 0 < shape.zones = grind (arith, valid) in
+    c.in-Ok-write_format.ensures.infos
+    ∙ formatted_infos shape c.args.superblock.now c.encode.new.out (1 ∷ 0 ∷ 0 ∷ 0 ∷ 0 ∷ []) some valid c.encode.array_long c.encode.ensures.bytes empty_snapshot refl
+
+pub returns-in-Ok-write_format-clause-image : goal.returns-in-Ok-write_format-clause-image
+returns-in-Ok-write_format-clause-image g c = λ told.
+    let D = g.D.ZonedDevice in
+    let dev = c.args.dev.now in
+    let shape : Geometry = c.args.geometry.now in
+    let valid : IsTrue (is_valid shape) = subst (λ s. IsTrue (is_valid s)) (sym c.requires.same_geometry) (g.met.D.ZonedDevice.possible dev c.requires.is_known).valid in
+    let some : 0 < shape.zones = grind (arith, valid) in
+    c.in-Ok-write_format.ensures.image told
+    ∙ formatted_is shape c.args.superblock.now c.encode.new.out (1 ∷ 0 ∷ 0 ∷ 0 ∷ 0 ∷ []) some valid c.encode.array_long c.encode.ensures.bytes empty_snapshot refl
+
+pub returns-in-Ok-write_format-clause-device : goal.returns-in-Ok-write_format-clause-device
+returns-in-Ok-write_format-clause-device g c =
+    let D = g.D.ZonedDevice in
+    let dev = c.args.dev.now in
+    let shape : Geometry = c.args.geometry.now in
+    let o = c.args.order in
+    done_as g.met.D.ZonedDevice.moments _ (LeftByFormat shape c.args.superblock.now (D.image dev)) c.in-Ok-write_format.ensures.device (λ failed. cc) (λ none. cc)
+    (λ j told passed. inr (record {
+      first = o.first;
+      second = o.second;
+      third = o.third;
+      order = c.requires.ordered told;
+      passed = subst (λ bs. PassedByFormat shape o.first o.second o.third bs (record_blocks shape.block (payload_of (Snapshot []))) (D.image dev) j) (ap (record_blocks shape.block) c.encode.ensures.bytes)
+          (subst (λ bs. PassedByFormat shape o.first o.second o.third (record_blocks shape.block c.encode.new.out) bs (D.image dev) j) (ap (record_blocks shape.block) empty_snapshot) passed);
+    }))
+
+pub returns-clause-device : goal.returns-clause-device
+returns-clause-device g c =
+    let D = g.D.ZonedDevice in
+    let dev = c.args.dev.now in
+    let shape : Geometry = c.args.geometry.now in
+    let o = c.args.order in
+    done_as g.met.D.ZonedDevice.moments _ (LeftByFormat shape c.args.superblock.now (D.image dev)) c.in-Err-write_format.ensures.device (λ failed. refl) (λ failed. refl)
+    (λ j told passed. inr (record {
+      first = o.first;
+      second = o.second;
+      third = o.third;
+      order = c.requires.ordered told;
+      passed = subst (λ bs. PassedByFormat shape o.first o.second o.third bs (record_blocks shape.block (payload_of (Snapshot []))) (D.image dev) j) (ap (record_blocks shape.block) c.encode.ensures.bytes)
+          (subst (λ bs. PassedByFormat shape o.first o.second o.third (record_blocks shape.block c.encode.new.out) bs (D.image dev) j) (ap (record_blocks shape.block) empty_snapshot) passed);
+    }))
+
+pub returns-in-Err-clause-device : goal.returns-in-Err-clause-device
+returns-in-Err-clause-device g c =
+    let D = g.D.ZonedDevice in
+    let dev = c.args.dev.now in
+    done_as g.met.D.ZonedDevice.moments _ (LeftByFormat c.args.geometry.now c.args.superblock.now (D.image dev))
+    (nothing_done g.met.D.ZonedDevice.moments dev (LeftByFormat c.args.geometry.now c.args.superblock.now (D.image dev)) c.requires.is_known (λ j crash. inl crash))
+    (λ none. absurd none) (λ none. cc) (λ j told p. p)
