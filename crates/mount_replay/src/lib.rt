@@ -2,6 +2,7 @@
 #![tactic(auto)]
 
 mod error;
+mod fold;
 mod frames;
 mod log;
 mod overlap;
