@@ -6,8 +6,8 @@ mod fold;
 mod frames;
 mod log;
 mod overlap;
-mod recovered;
 mod records;
+mod recovered;
 mod rules;
 
 pub use error::ReplayError;

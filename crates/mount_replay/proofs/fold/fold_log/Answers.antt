@@ -1,8 +1,8 @@
-use Rattle.std.proofs.Common.{◌≡◌, ℕ, ◌+◌, ◌<◌, ◌≤◌, false, List, [], Some, Ok, length, sym, ◌∙◌, ap, subst, arith}
+use Rattle.std.proofs.Common.{◌≡◌, ℕ, ◌<◌, ◌≤◌, false, Some, Ok, length, sym, ◌∙◌, subst, arith}
 use Rattle.std.specs.Prelude.{IfSome}
 use Rattle.zone_image.specs.Image.{Image, zone_at}
 use Rattle.zone_image.proofs.ReadLaws.{reads_on}
-use Rattle.log_model.specs.LogScan.{Scan, with_payload}
+use Rattle.log_model.specs.LogScan.{with_payload}
 use Rattle.log_model.specs.FileTable.{replay_from}
 use Rattle.extent_map.specs.Records.{recorded_of}
 use Rattle.meta_log.specs.Reader.{ReaderState, IsSameLog, scan_left}
@@ -40,26 +40,25 @@ loop-taken-preserved g c =
     let now = c.next_record.new.reader in
     let zone : ℕ = c.args.reader.now.zone in
     let r = c.in-Some.found in
-    let moved : old.next < now.next = subst (λ o. IfSome o (λ _. old.next < now.next)) c.in-Some.is c.in_ok-found.ensures.advances in
-    (
+    let moved : old.next < now.next = subst (λ o. IfSome o (λ _. old.next < now.next)) c.in-Some.is c.in_ok-found.ensures.advances in (
       reads_on g.met.D.ZonedDevice.moments c.loop-taken.invariant.0 c.in_ok-found.ensures.device,
       omega (arith, c.loop-taken.invariant.1, c.in_ok-found.ensures.cause.never_falls),
       same_on c.args.reader.now old now c.loop-taken.invariant.2 c.in_ok-found.ensures.same,
       omega (arith, c.loop-taken.invariant.3, moved),
       c.in_ok-ended.ensures.settled,
       λ told.
-      let blocks = (zone_at (D.image dev) zone).blocks in
-      let takes = taken_at now old (D.image dev) (D.image c.loop-taken.dev) zone r c.loop-taken.invariant.2.zone (c.loop-taken.invariant.0.same_image told)
-      (subst (λ o. Takes (scan_left old (zone_at (D.image c.loop-taken.dev) old.zone).blocks) o (scan_left now (zone_at (D.image c.loop-taken.dev) old.zone).blocks)) c.in-Some.is (c.in_ok-found.ensures.takes told)) in
-      fold_more c.loop-taken.ended c.in_ok-ended.ended (recorded_of c.loop-taken.table.rows) (recorded_of c.fold_record.new.table.rows) (scan_left old blocks) (scan_left now blocks) r
-      (replay_from false (recorded_of c.args.table.now.rows) (scan_left c.args.reader.now blocks).payloads) takes
-      (subst (λ bytes. folded c.loop-taken.ended (recorded_of c.loop-taken.table.rows) (r.block, bytes) ≡ Ok (c.in_ok-ended.ended, recorded_of c.fold_record.new.table.rows)) c.items.ensures c.in_ok-ended.ensures.folded)
-      (c.loop-taken.invariant.5 told),
+          let blocks = (zone_at (D.image dev) zone).blocks in
+          let takes = taken_at now old (D.image dev) (D.image c.loop-taken.dev) zone r c.loop-taken.invariant.2.zone (c.loop-taken.invariant.0.same_image told)
+          (subst (λ o. Takes (scan_left old (zone_at (D.image c.loop-taken.dev) old.zone).blocks) o (scan_left now (zone_at (D.image c.loop-taken.dev) old.zone).blocks)) c.in-Some.is (c.in_ok-found.ensures.takes told)) in
+          fold_more c.loop-taken.ended c.in_ok-ended.ended (recorded_of c.loop-taken.table.rows) (recorded_of c.fold_record.new.table.rows) (scan_left old blocks) (scan_left now blocks) r
+          (replay_from false (recorded_of c.args.table.now.rows) (scan_left c.args.reader.now blocks).payloads) takes
+          (subst (λ bytes. folded c.loop-taken.ended (recorded_of c.loop-taken.table.rows) (r.block, bytes) ≡ Ok (c.in_ok-ended.ended, recorded_of c.fold_record.new.table.rows)) c.items.ensures c.in_ok-ended.ensures.folded)
+          (c.loop-taken.invariant.5 told),
       λ told.
-      let blocks = (zone_at (D.image dev) zone).blocks in
-      let takes = taken_at now old (D.image dev) (D.image c.loop-taken.dev) zone r c.loop-taken.invariant.2.zone (c.loop-taken.invariant.0.same_image told)
-      (subst (λ o. Takes (scan_left old (zone_at (D.image c.loop-taken.dev) old.zone).blocks) o (scan_left now (zone_at (D.image c.loop-taken.dev) old.zone).blocks)) c.in-Some.is (c.in_ok-found.ensures.takes told)) in
-      last_more c.loop-taken.last (scan_left old blocks) (scan_left now blocks) r (last_after 0 (scan_left c.args.reader.now blocks).payloads) takes (c.loop-taken.invariant.6 told),
+          let blocks = (zone_at (D.image dev) zone).blocks in
+          let takes = taken_at now old (D.image dev) (D.image c.loop-taken.dev) zone r c.loop-taken.invariant.2.zone (c.loop-taken.invariant.0.same_image told)
+          (subst (λ o. Takes (scan_left old (zone_at (D.image c.loop-taken.dev) old.zone).blocks) o (scan_left now (zone_at (D.image c.loop-taken.dev) old.zone).blocks)) c.in-Some.is (c.in_ok-found.ensures.takes told)) in
+          last_more c.loop-taken.last (scan_left old blocks) (scan_left now blocks) r (last_after 0 (scan_left c.args.reader.now blocks).payloads) takes (c.loop-taken.invariant.6 told),
     )
 
 pub returns-clause-folded : goal.returns-clause-folded
