@@ -1,5 +1,5 @@
 -- Folding a log, one payload after another.
-use Rattle.std.proofs.Common.{◌≡◌, ℕ, zero, suc, ◌+◌, ◌<◌, ◌≤◌, Bool, true, false, ◌||◌, List, [], ◌∷◌, length, drop, map, Option, Some, None, Result, Ok, Err, refl, sym, ◌∙◌, ap, subst, arith, length-drop}
+use Rattle.std.proofs.Common.{◌≡◌, ℕ, zero, suc, ◌≤◌, Bool, ◌||◌, List, [], ◌∷◌, length, drop, Option, Some, None, Result, Ok, Err, refl, sym, ◌∙◌, ap, subst, arith, length-drop}
 use Rattle.std.specs.List.{All}
 use Rattle.std.proofs.lemmas.List.{nil_from_length}
 use Rattle.std.proofs.lemmas.List.Elements.{All-map}
@@ -35,6 +35,7 @@ replay_more ended es next p ps now is = go (placed p.0 (decoded (record_of p.1))
         let same : with_end (ended || is_end r) n ≡ (now, next) = cc in
         ap (λ (p : Bool × Table). replay_from p.0 p.1 ps) same
     after r (Err f) e = cc
+
     go : (d : Result Record (ℕ × DamageWhy)) → (d >>= (λ r. placed p.0 (next_table ended r es) >>= (λ n. Ok (with_end (ended || is_end r) n)))) ≡ Ok (now, next)
         → (d >>= (λ r. placed p.0 (next_table ended r es) >>= (λ n. replay_from (ended || is_end r) n ps))) ≡ replay_from now next ps
     go (Ok r) e = after r (placed p.0 (next_table ended r es)) e
@@ -47,6 +48,7 @@ replay_stops ended es p ps f is = go (placed p.0 (decoded (record_of p.1))) is
     after : (r : Record) (t : Result Table (ℕ × DamageWhy)) → (t >>= (λ n. Ok (with_end (ended || is_end r) n))) ≡ Err f → (t >>= (λ n. replay_from (ended || is_end r) n ps)) ≡ Err f
     after r (Ok n) e = cc
     after r (Err g) e = cc
+
     go : (d : Result Record (ℕ × DamageWhy)) → (d >>= (λ r. placed p.0 (next_table ended r es) >>= (λ n. Ok (with_end (ended || is_end r) n)))) ≡ Err f
         → (d >>= (λ r. placed p.0 (next_table ended r es) >>= (λ n. replay_from (ended || is_end r) n ps))) ≡ Err f
     go (Ok r) e = after r (placed p.0 (next_table ended r es)) e
@@ -68,6 +70,7 @@ none_left s blocks past = go s.ended
   where
     empty : drop s.next blocks ≡ []
     empty = nil_from_length (drop s.next blocks) (length-drop s.next blocks ∙ omega arith)
+
     go : (e : Option ScanEnd) → (unless_over e (scan_from s.block_size s.next (drop s.next blocks))).payloads ≡ []
     go None = ap (λ (bs : List (List ℕ)). (scan_from s.block_size s.next bs).payloads) empty ∙ no_scan zero s.block_size s.next
     go (Some e) = refl

@@ -1,5 +1,5 @@
 -- The payloads of a log, one by one.
-use Rattle.std.specs.Prelude.{◌≡◌, ⊤, ℕ, ◌^◌, ◌<◌, List, [], length, Option, Some, None}
+use Rattle.std.specs.Prelude.{◌≡◌, ⊤, ◌^◌, ◌<◌, [], length, Option, Some, None}
 use Rattle.log_model.specs.LogScan.{Scan, with_payload}
 use Rattle.mount_replay.specs.declared.log.LogRecord.{LogRecord}
 use Rattle.mount_replay.specs.declared.error.ReplayError.{ReplayError}

@@ -2,11 +2,12 @@
 #![tactic(auto)]
 
 mod error;
+mod fold;
 mod frames;
 mod log;
 mod overlap;
-mod recovered;
 mod records;
+mod recovered;
 mod rules;
 
 pub use error::ReplayError;
