@@ -31,7 +31,7 @@ impl FileTable {
         requires { snapshot_len self.now.rows < 2 ^ 63 }
         ensures { result ≡ snapshot_len self.now.rows }
     {
-        tagged_len(entries_len(&self.rows))
+        snapshot_told(&self.rows)
     }
 
     /// The length of the longest payload of an update that has a file's whole entry, were all extents
@@ -44,7 +44,14 @@ impl FileTable {
     }
 }
 
-/// The same, or the greatest 64-bit number.
+/// The length of the snapshot's payload, or the greatest 64-bit number.
+pub(crate) fn snapshot_told(rows: &[Row]) -> u64
+    ensures { result ≡ told (snapshot_len rows.now) }
+{
+    tagged_len(entries_len(rows))
+}
+
+/// The same of the longest update.
 fn greatest_len(rows: &[Row]) -> u64
     ensures { result ≡ told (greatest_len (working_of rows.now)) }
 {

@@ -2,6 +2,7 @@ ghost use Rattle.std.specs.Prelude.{◌≡◌, [], All, IfOk, OnOk};
 ghost use Rattle.record_model.specs.Grammar.{InGrammar};
 
 use super::*;
+use crate::lengths::snapshot_told;
 use crate::lookups::row_of;
 use record_codec::{decode, encode, encoded_len};
 use record_model::{MAX_ID, NO_ACTIVE};
@@ -181,9 +182,51 @@ fn noted(table: &mut FileTable, id: u64, extent: Extent) -> Result<(), Fail> {
     Ok(())
 }
 
-#[test]
-fn extents_are_noted_and_recorded(rt: HostRuntime) -> Result<(), Fail> {
-    let alloc = rt.alloc();
+// Shows and records what was noted of a file.
+fn recorded(table: &mut FileTable, id: u64) -> Result<(), Fail> {
+    let Some(_) = row_of(&table.rows, id) else {
+        return Err("no file")?;
+    };
+    table.show(id, 11);
+    let Some(_) = row_of(&table.rows, id) else {
+        return Err("no file")?;
+    };
+    table.recorded(id, 12288);
+    Ok(())
+}
+
+// The entry of the update of a file.
+fn updated(alloc: Global, table: &FileTable, id: u64) -> Result<FileEntry, Fail> {
+    let Some(_) = row_of(&table.rows, id) else {
+        return Err("no file")?;
+    };
+    match table.update(alloc, id)? {
+        Record::Update(entry) => Ok(entry),
+        _ => Err("no update")?,
+    }
+}
+
+// The entry of the replacement of a file.
+fn whole(alloc: Global, table: &FileTable, id: u64) -> Result<FileEntry, Fail> {
+    let Some(_) = row_of(&table.rows, id) else {
+        return Err("no file")?;
+    };
+    match table.whole(alloc, id)? {
+        Record::Replace(entry) => Ok(entry),
+        _ => Err("no replacement")?,
+    }
+}
+
+// How long the table tells that its snapshot is.
+fn told_len(table: &FileTable) -> Result<u64, Fail> {
+    if snapshot_told(&table.rows) >= 1 << 63 {
+        return Err("too long")?;
+    }
+    Ok(table.snapshot_len())
+}
+
+// A table with a file of which two extents were noted, which follow each other.
+fn noted_table(alloc: Global) -> Result<FileTable, Fail> {
     let first = Extent {
         start: 4096,
         len: 10,
@@ -205,11 +248,39 @@ fn extents_are_noted_and_recorded(rt: HostRuntime) -> Result<(), Fail> {
             len: 2,
         },
     )?;
+    Ok(table)
+}
+
+#[test]
+fn extents_are_noted_and_recorded(rt: HostRuntime) -> Result<(), Fail> {
+    let alloc = rt.alloc();
+    let mut table = noted_table(alloc)?;
     let both = [Extent {
         start: 8192,
         len: 7,
     }];
     assert_eq!(rt; table.unrecorded(1), Some(both.as_slice()));
     assert_eq!(rt; table.shown(1), Some(10));
+    let update = updated(alloc, &table, 1)?;
+    assert_eq!(rt; update.extents.items(), both.as_slice());
+    assert_eq!(rt; update.size, 17);
+    recorded(&mut table, 1)?;
+    assert_eq!(rt; table.shown(1), Some(17));
+    let replacement = whole(alloc, &table, 1)?;
+    assert_eq!(rt; replacement.extents.items().len(), 2);
+    assert_eq!(rt;
+        (replacement.size, replacement.time, replacement.active),
+        (17, 11, 12288)
+    );
+    Ok(())
+}
+
+#[test]
+fn snapshots_are_as_long_as_told(rt: HostRuntime) -> Result<(), Fail> {
+    let alloc = rt.alloc();
+    let mut table = noted_table(alloc)?.copy(alloc)?;
+    recorded(&mut table, 1)?;
+    let snapshot = table.snapshot(alloc)?;
+    assert_eq!(rt; told_len(&table)?, encoded_len(&snapshot));
     Ok(())
 }
