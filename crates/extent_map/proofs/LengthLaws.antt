@@ -1,5 +1,11 @@
 -- The lengths of records of a table.
-use Rattle.std.proofs.Common.{◌≡◌, ℕ, ◌+◌, ◌*◌, ◌<◌, ◌≤◌, cond, List, [], ◌∷◌, ◌++◌, drop, get_or, length, max, refl, ap, arith, add-one, drop-cons, length-append}
+use Rattle.std.proofs.Math.Nat.{mul-le-mul_right}
+use Rattle.std.proofs.lemmas.Bool.{cases_lt}
+use Rattle.std.proofs.lemmas.Grind.{div_ceil_times}
+use Rattle.log_model.specs.LogScan.{blocks_of}
+use Rattle.log_model.specs.Headroom.{greatest_blocks}
+use Rattle.log_model.proofs.LengthLaws.{blocks_grow}
+use Rattle.std.proofs.Common.{⊎_elim, ◌∙◌, ◌≡◌, ℕ, ◌+◌, ◌*◌, ◌<◌, ◌≤◌, cond, List, [], ◌∷◌, ◌++◌, drop, get_or, length, max, refl, ap, arith, add-one, drop-cons, length-append}
 use Rattle.std.specs.List.{flat_map}
 use Rattle.record_model.specs.Numbers.{u32, varint}
 use Rattle.record_model.specs.Encoding.{field_bytes, entry_bytes, payload_of, slice}
@@ -53,3 +59,37 @@ unfolding payload_of
 longest_within es =
     let body : List ℕ = flat_map (λ e. slice (entry_bytes e)) es in
     omega (arith, longest_in es, length-append (u32 1) (slice body), slice_len body)
+
+-- ---- in blocks
+
+-- a payload of no bytes takes one block at most
+no_bytes : (block : ℕ) → 8 ≤ block → blocks_of block 0 ≤ 1
+no_bytes block enough =
+    ⊎_elim
+    (λ above.
+    let high : blocks_of block 0 * block < 8 + 0 + block = (div_ceil_times (8 + 0) block (omega arith)).1 in
+    let more : 2 * block ≤ blocks_of block 0 * block = mul-le-mul_right block (omega arith) in
+    absurd (omega arith))
+    (λ le. le)
+    (cases_lt 1 (blocks_of block 0))
+
+-- the blocks of the longer of two payloads
+blocks_of_longer : (block a b : ℕ) → 0 < block → blocks_of block (max a b) ≡ max (blocks_of block a) (blocks_of block b)
+blocks_of_longer block a b pos =
+    ⊎_elim
+    (λ less.
+    let longer : max a b ≡ b = omega arith in
+    let grows = blocks_grow block a b pos (omega arith) in
+    ap (blocks_of block) longer ∙ omega (arith, grows))
+    (λ le.
+    let longer : max a b ≡ a = omega arith in
+    let grows = blocks_grow block b a pos le in
+    ap (blocks_of block) longer ∙ omega (arith, grows))
+    (cases_lt a b)
+
+-- the blocks of the greatest record are those of the longest
+pub greatest_in_blocks : (block : ℕ) (es : Table) → 8 ≤ block → greatest_blocks block es ≡ max 1 (blocks_of block (greatest_len es))
+greatest_in_blocks block [] enough = omega (arith, no_bytes block enough)
+greatest_in_blocks block (e ∷ es) enough =
+    let both = blocks_of_longer block (length (payload_of (Update e))) (greatest_len es) (omega arith) in
+    omega (arith, both, greatest_in_blocks block es enough)

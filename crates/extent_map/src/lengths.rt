@@ -3,12 +3,14 @@
 //! The numbers stop at the greatest 64-bit number on the way, which no length comes to that may be
 //! asked for.
 
-ghost use Rattle.std.specs.Prelude.{◌≡◌, ◌+◌, ◌^◌, ◌<◌, length, max};
+ghost use Rattle.std.specs.Prelude.{◌≡◌, ◌+◌, ◌^◌, ◌<◌, ◌≤◌, ℕ, length, max};
 ghost use Rattle.std.specs.List.{flat_map};
 ghost use Rattle.record_model.specs.Numbers.{varint};
 ghost use Rattle.record_model.specs.Encoding.{field_bytes, entry_bytes, slice};
 ghost use Rattle.record_model.specs.declared.field.Field.TheVariants.{Linked};
 ghost use Rattle.record_codec.specs.Length.{told};
+ghost use Rattle.log_model.specs.Headroom.{greatest_blocks};
+ghost use Rattle.log_model.specs.LogScan.{blocks_of};
 ghost use Rattle.fs_model.specs.FsState.{working_entry, working_of};
 ghost use Rattle.extent_map.specs.Records.{snapshot_len, greatest_len};
 
@@ -38,7 +40,10 @@ impl FileTable {
     /// recorded; 0 where there is no file.
     pub fn greatest_record(&self) -> u64
         requires { snapshot_len self.now.rows < 2 ^ 63 }
-        ensures { result ≡ greatest_len (working_of self.now.rows) }
+        ensures length { result ≡ greatest_len (working_of self.now.rows) }
+        // Its blocks are those that the room of a log is judged with.
+        ensures blocks { (block : ℕ) → 8 ≤ block
+            → greatest_blocks block (working_of self.now.rows) ≡ max 1 (blocks_of block result) }
     {
         greatest_len(&self.rows)
     }
