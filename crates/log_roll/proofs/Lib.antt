@@ -13,3 +13,4 @@ pub mod RollStages
 pub mod RollBase
 pub mod RollCrash
 pub mod RollMoments
+pub mod FormatSelects
