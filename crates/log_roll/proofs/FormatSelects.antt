@@ -1,5 +1,5 @@
 -- The log that is selected on a formatted device.
-use Rattle.std.specs.Prelude.{◌≡◌, ◌≢◌, ℕ, zero, suc, ◌+◌, ◌-◌, ◌<◌, List, [], ◌∷◌, length, replicate, Ok, IsTrue, refl}
+use Rattle.std.specs.Prelude.{◌≡◌, ◌≢◌, ℕ, zero, suc, ◌-◌, [], length, replicate, Ok, IsTrue, refl}
 use Rattle.std.proofs.Common.{ap, arith}
 use Rattle.zone_image.specs.declared.Geometry.{Geometry}
 use Rattle.zone_image.specs.Image.{Zone, is_valid, no_zone, zone_in}
