@@ -18,3 +18,4 @@ pub mod RollStages
 pub mod RollBase
 pub mod RollCrash
 pub mod RollMoments
+pub mod FormatSelects

@@ -1,5 +1,5 @@
 // A device is formatted: an empty file system is made on it.
-ghost use Rattle.std.specs.Prelude.{◌≡◌, ◌⊎◌, ◌*◌, ◌<◌, ◌≤◌, IsTrue, length, vec_capacity, IfOk, OnOk, IsErr, IsErrOf};
+ghost use Rattle.std.specs.Prelude.{◌≡◌, ◌⊎◌, ◌*◌, ◌<◌, ◌≤◌, IsTrue, length, vec_capacity, IfOk, OnOk, IsErr, IsErrOf, []};
 ghost use Rattle.zone_image.specs.Changes.{blank, synced};
 ghost use Rattle.zone_image.specs.Infos.{infos_blank, infos_of};
 ghost use Rattle.superblock_core.specs.Superblock.{fits};
@@ -8,6 +8,9 @@ ghost use Rattle.log_model.specs.Format.{formatted_image, reset_order};
 ghost use Rattle.log_roll.specs.DeviceSteps.{ChangesDevice};
 ghost use Rattle.log_roll.specs.Resets.{emptied_three, infos_emptied_three};
 ghost use Rattle.log_roll.specs.NewLog.{begun, infos_begun};
+ghost use Rattle.record_model.specs.Encoding.{payload_of};
+ghost use Rattle.record_model.specs.declared.types.Record.TheVariants.{Snapshot};
+ghost use Rattle.log_roll.specs.FormatLeaves.{HasNewLog};
 ghost use Rattle.log_roll.specs.FormatOrder.{AreMetadata, zones_of};
 ghost use Rattle.log_roll.specs.Formatting.{LeftByFormat, PassedByEmptying, PassedByFirstLog, PassedByFirstResets, PassedByFormat};
 
@@ -138,6 +141,7 @@ fn format_in_order<D: ZonedDevice>(
     requires fits { IsTrue (fits superblock.now geometry.now) }
     ensures infos { OnOk result (D.infos dev.new ≡ infos_of (formatted_image geometry.now superblock.now)) }
     ensures image { OnOk result (D.tells → D.image dev.new ≡ formatted_image geometry.now superblock.now) }
+    ensures log { OnOk result (D.tells → HasNewLog 0 superblock.now (payload_of (Snapshot [])) (D.image dev.new)) }
 
     ensures memory { IsErrOf result LogError.NoMemory → (D.infos dev.new ≡ D.infos dev.old) × (D.tells → D.image dev.new ≡ D.image dev.old) }
 
@@ -174,6 +178,7 @@ pub fn format<D: ZonedDevice>(
     requires fits { IsTrue (fits superblock.now geometry.now) }
     ensures infos { OnOk result (D.infos dev.new ≡ infos_of (formatted_image geometry.now superblock.now)) }
     ensures image { OnOk result (D.tells → D.image dev.new ≡ formatted_image geometry.now superblock.now) }
+    ensures log { OnOk result (D.tells → HasNewLog 0 superblock.now (payload_of (Snapshot [])) (D.image dev.new)) }
 
     // After want of memory nothing was written.
     ensures memory { IsErrOf result LogError.NoMemory → (D.infos dev.new ≡ D.infos dev.old) × (D.tells → D.image dev.new ≡ D.image dev.old) }

@@ -1,9 +1,12 @@
-use Rattle.std.proofs.Common.{ap, inl, inr, ◌<◌, [], ◌∷◌, sym, subst, refl, ◌∙◌, IsTrue, arith}
+use Rattle.std.proofs.Common.{ℕ, List, length, ap, inl, inr, ◌<◌, [], ◌∷◌, sym, subst, refl, ◌∙◌, IsTrue, arith}
 use Rattle.zone_image.specs.declared.Geometry.{Geometry}
 use Rattle.zone_image.specs.Image.{is_valid}
 use Rattle.record_model.specs.Encoding.{payload_of}
 use Rattle.record_model.specs.declared.types.Record.TheVariants.{Snapshot}
 use Rattle.log_model.specs.LogScan.{record_blocks}
+use Rattle.superblock_core.specs.Superblock.{superblock_of}
+use Rattle.log_roll.specs.FormatLeaves.{HasNewLog}
+use Rattle.log_roll.proofs.FormatSelects.{formatted_log}
 use Rattle.log_roll.specs.Formatting.{LeftByFormat, PassedByFormat}
 use Rattle.log_roll.proofs.DeviceCalls.{done_as, nothing_done}
 use Rattle.log_roll.proofs.Formatted.{formatted_is, formatted_infos, empty_snapshot}
@@ -28,6 +31,18 @@ returns-in-Ok-write_format-clause-image g c = λ told.
     let some : 0 < shape.zones = grind (arith, valid) in
     c.in-Ok-write_format.ensures.image told
     ∙ formatted_is shape c.args.superblock.now c.encode.new.out (1 ∷ 0 ∷ 0 ∷ 0 ∷ 0 ∷ []) some valid c.encode.array_long c.encode.ensures.bytes empty_snapshot refl
+
+pub returns-in-Ok-write_format-clause-log : goal.returns-in-Ok-write_format-clause-log
+returns-in-Ok-write_format-clause-log g c = λ told.
+    let D = g.D.ZonedDevice in
+    let dev = c.args.dev.now in
+    let shape : Geometry = c.args.geometry.now in
+    let valid : IsTrue (is_valid shape) = subst (λ s. IsTrue (is_valid s)) (sym c.requires.same_geometry) (g.met.D.ZonedDevice.possible dev c.requires.is_known).valid in
+    let some : 0 < shape.zones = grind (arith, valid) in
+    let s = c.args.superblock.now in
+    subst (λ j. HasNewLog 0 s (payload_of (Snapshot [])) j) (sym (c.in-Ok-write_format.ensures.image told
+    ∙ formatted_is shape c.args.superblock.now c.encode.new.out (1 ∷ 0 ∷ 0 ∷ 0 ∷ 0 ∷ []) some valid c.encode.array_long c.encode.ensures.bytes empty_snapshot refl))
+    (formatted_log shape s valid (ap superblock_of (sym c.encode.ensures.bytes) ∙ c.encode.ensures.reads_back) (ap (λ (bs : List ℕ). length bs) (sym c.encode.ensures.bytes) ∙ c.encode.array_long) c.requires.fits)
 
 pub returns-in-Ok-write_format-clause-device : goal.returns-in-Ok-write_format-clause-device
 returns-in-Ok-write_format-clause-device g c =
