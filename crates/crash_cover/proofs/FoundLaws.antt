@@ -10,14 +10,11 @@ use Rattle.std.proofs.lemmas.Grind.{div_ceil_times}
 use Rattle.std.specs.Int.{w64, from_le_bytes}
 use Rattle.std.specs.List.{All, AllByRecursion}
 use Rattle.zone_image.specs.declared.Geometry.{Geometry}
-use Rattle.zone_image.specs.declared.ZoneInfo.{ZoneInfo}
 use Rattle.zone_image.specs.Image.{Zone, Image, zone_at, zone_in, zone_of, offset_of, zone_bytes, is_valid}
 use Rattle.zone_image.specs.Infos.{info_of, IsPossibleInfo, IsValidImage}
 use Rattle.zone_image.proofs.InfoLaws.{some_block}
 use Rattle.record_model.specs.declared.types.Extent.{Extent}
-use Rattle.record_model.specs.declared.types.FileEntry.{FileEntry}
-use Rattle.log_model.specs.Frames.{no_active, frame_blocks, frames_within, frames_at, blocks_from, rest_at, extent_if_any, is_recovery_point, recovered_extents}
-use Rattle.log_model.specs.Mounted.{is_written}
+use Rattle.log_model.specs.Frames.{no_active, frame_blocks, frames_within, frames_at, blocks_from, rest_at, extent_if_any, is_recovery_point}
 use Rattle.crash_cover.specs.FoundExtents.{IsWrittenIn, FoundIsWritten}
 
 -- an extent of a byte at least, within two addresses

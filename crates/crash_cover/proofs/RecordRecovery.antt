@@ -1,10 +1,9 @@
 -- The tree that a crash leaves within the append of a record.
-use Rattle.std.specs.Prelude.{◌≡◌, ◌⊎◌, ℕ, zero, suc, ◌<◌, ◌≤◌, true, false, List, [], ◌∷◌, ◌++◌, length, take, drop, map, nat_le, nat_lt, ◌&&◌, refl}
+use Rattle.std.specs.Prelude.{◌≡◌, ℕ, zero, suc, ◌<◌, ◌≤◌, true, false, List, [], ◌∷◌, ◌++◌, length, take, drop, map, nat_le, nat_lt, ◌&&◌, refl}
 use Rattle.std.proofs.Common.{◌∙◌, ap, sym, subst, ⊎_elim, inl, inr, arith}
 use Rattle.std.proofs.lemmas.Bool.{leb-true, and_parts}
 use Rattle.std.proofs.lemmas.List.{take_all}
 use Rattle.std.specs.List.{AllByRecursion, AllZip, concat, list_all}
-use mathlib.Core.Path.{fun_ext}
 use Rattle.zone_image.specs.Image.{Zone, Image, IsCrash, SameBlocks, zone_at, zone_in, zone_of, offset_of}
 use Rattle.zone_image.specs.Changes.{appended}
 use Rattle.zone_image.specs.Infos.{IsValidImage}
@@ -12,15 +11,12 @@ use Rattle.zone_image.specs.Moments.{PassedByAppend}
 use Rattle.zone_image.proofs.AppendLaws.{WithinAppend, crash-part}
 use Rattle.zone_image.proofs.CrashLaws.{valid_crash}
 use Rattle.record_model.specs.declared.types.Extent.{Extent}
-use Rattle.record_model.specs.declared.types.FileEntry.{FileEntry}
 use Rattle.log_model.specs.LogScan.{record_blocks}
-use Rattle.log_model.specs.LogSelection.{LogAt, scans_of}
+use Rattle.log_model.specs.LogSelection.{scans_of}
 use Rattle.log_model.specs.FileTable.{Table}
 use Rattle.log_model.specs.FileTree.{RecoversTo, bytes_in}
 use Rattle.log_model.specs.Frames.{extent_bytes, bytes_of, recovered_extents}
-use Rattle.log_model.specs.Mounted.{MountsTo, is_written, all_extents, recovered_entry, file_in, tree_of, mounted_in}
-use Rattle.log_model.specs.MountLaws.{HaveSameBlocks}
-use Rattle.log_model.specs.MountedLogLaws.{MountsTable}
+use Rattle.log_model.specs.Mounted.{all_extents, recovered_entry, file_in, tree_of, mounted_in}
 use Rattle.log_model.specs.TableLaws.{IsTable}
 use Rattle.log_model.proofs.AppendLaws.{selected_is_of_its_zone}
 use Rattle.log_model.proofs.BlockLaws.{mount_reads_blocks}
@@ -28,13 +24,12 @@ use Rattle.log_model.proofs.DecodedNames.{replay_makes_table}
 use Rattle.log_model.proofs.LogReplayLaws.{added_record_is_replayed}
 use Rattle.crash_cover.specs.SameData.{HaveSameData}
 use Rattle.crash_cover.specs.Pinned.{is_durable, IsPinned}
-use Rattle.crash_cover.specs.AtRest.{IsAtRest, AddsRecord}
 use Rattle.crash_cover.specs.FoundExtents.{IsWrittenIn}
-use Rattle.crash_cover.specs.Recovery.{RecoversTable, RecordMomentRecovers, standing_bytes}
+use Rattle.crash_cover.specs.Recovery.{RecordMomentRecovers, standing_bytes}
 use Rattle.crash_cover.proofs.SameData.{data_decides_table}
 use Rattle.crash_cover.proofs.PinnedTables.{crash_keeps_durable, pinned_is_kept, split_durable}
 use Rattle.crash_cover.proofs.RestLaws.{avoids_nothing, appended_data, record_moment_mounts}
-use Rattle.crash_cover.proofs.StepLaws.{end_behind}
+use Rattle.log_model.proofs.MountedLogLaws.{end_behind}
 use Rattle.crash_cover.proofs.FoundLaws.{found_is_written}
 use Rattle.crash_cover.proofs.RecoveryLaws.{bytes_append, kept_recovers}
 

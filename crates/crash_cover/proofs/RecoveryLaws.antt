@@ -1,5 +1,5 @@
 -- The tree that a crash leaves of an image at rest.
-use Rattle.std.specs.Prelude.{◌≡◌, ◌≢◌, ℕ, zero, suc, ◌+◌, ◌<◌, ◌≤◌, Bool, true, false, not, ◌&&◌, ◌||◌, cond, List, [], ◌∷◌, ◌++◌, length, map, drop, ◌==◌, refl}
+use Rattle.std.specs.Prelude.{◌≡◌, ℕ, zero, suc, ◌+◌, ◌<◌, ◌≤◌, Bool, true, false, not, ◌||◌, cond, List, [], ◌∷◌, ◌++◌, length, map, drop, ◌==◌, refl}
 use Rattle.std.proofs.Common.{◌∙◌, ap, sym, subst, append_assoc, append-nil, arith}
 use Rattle.std.proofs.lemmas.Bool.{and_parts, eq-eqb, ne_eqb}
 use Rattle.std.proofs.lemmas.List.Elements.{All-head, All-tail}
@@ -20,7 +20,6 @@ use Rattle.log_model.specs.TableLaws.{IdsRise, IsTable}
 use Rattle.log_model.proofs.FrameLaws.{frames_stay_in_order}
 use Rattle.log_model.proofs.KeptLaws.{kept_extent_stays}
 use Rattle.log_model.proofs.DecodedNames.{replay_makes_table}
-use Rattle.crash_cover.specs.AtRest.{IsAtRest}
 use Rattle.crash_cover.specs.Pinned.{is_durable, is_durable_point, has_durable_point, IsPinned, KeepsDurable}
 use Rattle.crash_cover.specs.FoundExtents.{IsWrittenIn}
 use Rattle.crash_cover.specs.Recovery.{standing_bytes, CrashRecovers}

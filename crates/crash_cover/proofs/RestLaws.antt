@@ -1,10 +1,10 @@
 -- What an image at rest mounts, after a crash too.
-use Rattle.std.specs.Prelude.{◌≡◌, ◌≢◌, ◌⊎◌, ℕ, zero, suc, ◌<◌, ◌≤◌, Bool, false, List, [], ◌∷◌, length, take, None, refl}
-use Rattle.std.proofs.Common.{◌∙◌, ap, sym, subst, ⊎_elim, inl, inr, arith}
+use Rattle.std.specs.Prelude.{◌≡◌, ℕ, zero, suc, ◌<◌, ◌≤◌, false, List, [], ◌∷◌, length, take, None, refl}
+use Rattle.std.proofs.Common.{◌∙◌, ap, sym, ⊎_elim, inl, inr, arith}
 use Rattle.std.specs.List.{All, AllByRecursion}
 use Rattle.std.proofs.lemmas.List.Elements.{All-head, All-tail}
-use Rattle.zone_image.specs.Image.{Zone, Image, IsCrash, zone_at, zone_in, is_valid}
-use Rattle.zone_image.specs.Changes.{change_at, zone_appended, appended}
+use Rattle.zone_image.specs.Image.{Zone, Image, IsCrash, zone_at, zone_in}
+use Rattle.zone_image.specs.Changes.{zone_appended, appended}
 use Rattle.zone_image.specs.Infos.{info_of, IsZone, IsValidImage}
 use Rattle.zone_image.proofs.InfoLaws.{some_block}
 use Rattle.std.proofs.lemmas.List.{length-map}
@@ -14,14 +14,14 @@ use Rattle.log_model.specs.LogSelection.{LogAt, select_log, scans_of}
 use Rattle.log_model.specs.FileTable.{Table}
 use Rattle.log_model.specs.Mounted.{all_extents, broken_rule}
 use Rattle.log_model.specs.AppendLaws.{IsSelectedOn}
-use Rattle.log_model.specs.MountedLogLaws.{HasTable, MountsTable}
+use Rattle.log_model.specs.MountedLogLaws.{HasTable}
 use Rattle.log_model.proofs.AppendLaws.{selected_is_of_its_zone}
-use Rattle.log_model.proofs.CrashLaws.{durable_zone_stays}
+use Rattle.log_model.proofs.CrashLaws.{durable_zone_stays, changed_elsewhere}
 use Rattle.log_model.proofs.MountedLogLaws.{selected_table_mounts}
 use Rattle.log_model.proofs.RecordCrash.{record_crash_mounts}
 use Rattle.crash_cover.specs.SameData.{HaveSameData, Avoids, RecoversElsewhere}
 use Rattle.crash_cover.specs.Pinned.{IsPinned}
-use Rattle.crash_cover.specs.AtRest.{IsAtRest, RestMounts, CrashAtRestMounts, AddsRecord, RecordMomentMounts}
+use Rattle.crash_cover.specs.AtRest.{IsAtRest, RestMounts, CrashAtRestMounts, RecordMomentMounts}
 use Rattle.crash_cover.proofs.PinnedTables.{crash_keeps_durable, pinned_table_stays, pinned_is_kept}
 
 pub rest_mounts : RestMounts
@@ -56,14 +56,6 @@ crash_at_rest_mounts i j log greatest es rest crash =
           (pinned_table_stays i j es (block_is_some i log greatest es rest) (crash_keeps_durable i j crash) rest.pinned),
     )
 
--- a zone that isn't changed
-pub elsewhere : (n m : ℕ) (f : Zone → Zone) (zs : List Zone) → m ≢ n → zone_in (change_at n f zs) m ≡ zone_in zs m
-elsewhere n m f [] h = refl
-elsewhere zero zero f (z ∷ zs) h = absurd (h refl)
-elsewhere zero (suc m) f (z ∷ zs) h = refl
-elsewhere (suc n) zero f (z ∷ zs) h = refl
-elsewhere (suc n) (suc m) f (z ∷ zs) h = elsewhere n m f zs (λ same. h (ap suc same))
-
 -- where nothing changed, a table avoids what changed
 pub avoids_nothing : (i : Image) (es : Table) → Avoids (λ _. false) i.geometry es
 avoids_nothing i es = record { extents = no_extent (all_extents es); points = no_point es }
@@ -85,7 +77,7 @@ appended_data i zone added metadata = record {
 }
   where
     same : (n : ℕ) → 3 ≤ n → zone_at (appended i zone added) n ≡ zone_at i n
-    same n data_zone = elsewhere zone n (zone_appended i.geometry.capacity added) i.zones (λ is. omega (arith, is))
+    same n data_zone = changed_elsewhere zone n (zone_appended i.geometry.capacity added) i.zones (λ is. omega (arith, is))
 
 -- a table that is pinned breaks no rule after a crash within an append to a metadata zone
 left_unbroken : (i j : Image) (zone : ℕ) (added : List (List ℕ)) (es : Table) → 0 < i.geometry.block → zone < 3 → IsPinned i es → IsCrash (appended i zone added) j

@@ -1,6 +1,6 @@
 -- A table reads the same in images that differ only where it has nothing.
-use Rattle.std.specs.Prelude.{◌≡◌, ◌≢◌, ℕ, ◌+◌, ◌*◌, ◌/◌, ◌%◌, ◌≤◌, Bool, true, false, not, ◌&&◌, ◌||◌, cond, List, [], ◌∷◌, ◌++◌, length, map, drop, nat_lt, nat_le, ◌==◌, Option, Some, None, if◌then◌else◌, refl}
-use Rattle.std.proofs.Common.{◌∙◌, ap, sym, subst}
+use Rattle.std.specs.Prelude.{◌≡◌, ℕ, ◌+◌, ◌*◌, ◌/◌, ◌%◌, ◌≤◌, Bool, true, false, not, ◌&&◌, ◌||◌, cond, List, [], ◌∷◌, length, map, drop, nat_lt, nat_le, ◌==◌, Option, Some, None, if◌then◌else◌, refl}
+use Rattle.std.proofs.Common.{◌∙◌, ap}
 use Rattle.std.proofs.lemmas.Bool.{leb-true, eqb-false, and_parts}
 use Rattle.std.specs.List.{AllByRecursion, list_all}
 use Rattle.zone_image.specs.declared.Geometry.{Geometry}
@@ -10,7 +10,7 @@ use Rattle.record_model.specs.declared.types.FileEntry.{FileEntry}
 use Rattle.log_model.specs.FileTable.{Table}
 use Rattle.log_model.specs.Frames.{no_active, blocks_from, frames_at, rest_at, frames_within, extent_if_any, is_recovery_point, recovered_extents}
 use Rattle.log_model.specs.Mounted.{is_written, all_extents, entry_with, recovered_entry, has_valid_recovery_point, overlap, broken_rule}
-use Rattle.crash_cover.specs.SameData.{HaveSameData, RecoversElsewhere, Avoids, ReadsAlike, DataDecidesTable}
+use Rattle.crash_cover.specs.SameData.{HaveSameData, RecoversElsewhere, Avoids, DataDecidesTable}
 
 -- tests behind a first one matter only where that one passes
 behind_first : (b p q r : Bool) → (b ≡ true → q ≡ r) → b && p && q ≡ b && p && r

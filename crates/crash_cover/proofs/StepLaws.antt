@@ -1,29 +1,24 @@
 -- Steps from one image at rest to the next.
-use Rattle.std.specs.Prelude.{◌≡◌, ◌≢◌, ℕ, zero, suc, ◌+◌, ◌<◌, ◌≤◌, Bool, true, false, List, [], ◌∷◌, ◌++◌, length, map, drop, Ok, ◌==◌, refl}
+use Rattle.std.specs.Prelude.{◌≡◌, ◌≢◌, ℕ, zero, suc, ◌<◌, ◌≤◌, false, List, [], ◌∷◌, length, map, drop, ◌==◌, refl}
 use Rattle.std.proofs.Common.{◌∙◌, ap, sym, subst, ⊎_elim, arith}
-use Rattle.std.proofs.lemmas.Bool.{eqb-false, or_parts}
-use Rattle.std.specs.Str.{bytes_eq}
+use Rattle.std.proofs.lemmas.Bool.{eqb-false}
 use Rattle.zone_image.specs.Image.{Zone, Image, zone_at, zone_in, no_zone}
 use Rattle.zone_image.specs.Changes.{change_at, zone_appended, zone_finished, zone_synced, appended, finished, emptied, synced}
 use Rattle.zone_image.specs.Infos.{IsValidImage}
 use Rattle.zone_image.proofs.InfoLaws.{valid_synced}
-use Rattle.record_model.specs.Numbers.{u32}
-use Rattle.log_model.specs.LogScan.{ScanEnd, record_blocks, has_end}
-use Rattle.log_model.specs.LogScan.ScanEnd.{Clean, Torn, Bad}
-use Rattle.log_model.specs.LogSelection.{LogAt, scans_of, snapshot_in}
-use Rattle.log_model.specs.FileTable.{Table, replay_log}
+use Rattle.log_model.specs.LogScan.{record_blocks}
+use Rattle.log_model.specs.LogSelection.{scans_of}
+use Rattle.log_model.specs.FileTable.{replay_log}
 use Rattle.log_model.specs.CrashLaws.{IsDurable}
 use Rattle.log_model.specs.AppendLaws.{AppendsTo}
-use Rattle.log_model.specs.MountedLogLaws.{HasTable}
 use Rattle.log_model.proofs.AppendLaws.{selected_is_of_its_zone, record_behind_selected}
 use Rattle.log_model.proofs.LogReplayLaws.{added_record_is_replayed}
-use Rattle.log_model.proofs.SelectedLog.{Selected, selected_from}
-use Rattle.log_model.proofs.GrowingLog.{selected_has_snapshot}
+use Rattle.log_model.proofs.CrashLaws.{changed_here, changed_elsewhere}
+use Rattle.log_model.proofs.MountedLogLaws.{some_payload, behind_first, end_behind}
 use Rattle.crash_cover.specs.SameData.{HaveSameData}
-use Rattle.crash_cover.specs.AtRest.{IsAtRest, with_record}
-use Rattle.crash_cover.specs.RestSteps.{KeepsLog, RestIsKept, SyncKeepsRest, FinishKeepsRest, ResetKeepsRest, RecordIsAtRest, FinishMomentMounts, ResetMomentMounts}
+use Rattle.crash_cover.specs.RestSteps.{RestIsKept, SyncKeepsRest, FinishKeepsRest, ResetKeepsRest, RecordIsAtRest, FinishMomentMounts, ResetMomentMounts}
 use Rattle.crash_cover.proofs.PinnedTables.{pinned_is_kept}
-use Rattle.crash_cover.proofs.RestLaws.{same_selected, crash_at_rest_mounts, elsewhere, avoids_nothing, appended_data, three_zones, kept_within}
+use Rattle.crash_cover.proofs.RestLaws.{same_selected, crash_at_rest_mounts, avoids_nothing, appended_data, three_zones, kept_within}
 
 pub rest_is_kept : RestIsKept
 rest_is_kept changed i j log greatest es rest valid keeps same away = record {
@@ -95,7 +90,7 @@ finish_keeps_rest i zone log greatest es rest valid =
 
 -- another zone than the one that was reset
 not_reset : (i : Image) (zone n : ℕ) → n ≢ zone → zone_at (emptied i zone) n ≡ zone_at i n
-not_reset i zone n other = elsewhere zone n (λ _. no_zone) i.zones other
+not_reset i zone n other = changed_elsewhere zone n (λ _. no_zone) i.zones other
 
 pub reset_keeps_rest : ResetKeepsRest
 reset_keeps_rest i zone log greatest es rest valid data_zone away =
@@ -126,40 +121,12 @@ reset_moment_mounts i j zone log greatest es rest valid data_zone away passed =
     (λ after. (crash_at_rest_mounts (emptied i zone) j log greatest es (reset_keeps_rest i zone log greatest es rest valid data_zone away) after).1)
     passed
 
--- a log of no payload has no snapshot
-no_payload : (zone : ℕ) (end : ScanEnd) → snapshot_in zone end [] ≡ Ok true → ⊥
-no_payload zone Clean h = cc
-no_payload zone (Torn block) h = cc
-no_payload zone (Bad block len stored computed) h = cc
-
--- a selected log has a payload
-some_payload : (i : Image) (log : LogAt) (greatest : ℕ) (es : Table) → HasTable i log greatest es → log.scan.payloads ≢ []
-some_payload i log greatest es h none =
-    let s : Selected i.geometry (scans_of i) log greatest = selected_from i.geometry (scans_of i) log greatest h.selected in
-    no_payload log.zone log.scan.end (ap (snapshot_in log.zone log.scan.end) (sym none) ∙ selected_has_snapshot s.logs log s.current)
-
--- one payload more, behind the first
-behind_first : (payloads : List (ℕ × List ℕ)) (p : ℕ × List ℕ) → payloads ≢ [] → drop 1 (payloads ++ p ∷ []) ≡ drop 1 payloads ++ p ∷ []
-behind_first [] p some = absurd (some refl)
-behind_first (q ∷ qs) p some = refl
-
--- without its first payload a log has no end record still
-pub end_behind : (payloads : List (ℕ × List ℕ)) → has_end payloads ≡ false → has_end (drop 1 payloads) ≡ false
-end_behind [] h = refl
-end_behind (p ∷ ps) h = (or_parts (bytes_eq p.1 (u32 4)) (has_end ps) h).1
-
--- the zone that was changed
-changed_here : (n : ℕ) (f : Zone → Zone) (zs : List Zone) → n < length zs → zone_in (change_at n f zs) n ≡ f (zone_in zs n)
-changed_here n f [] h = absurd (omega arith)
-changed_here zero f (z ∷ zs) h = refl
-changed_here (suc n) f (z ∷ zs) h = changed_here n f zs (omega arith)
-
 -- a synced image after an append has the blocks behind those that were there
 append_synced : (i : Image) (zone : ℕ) (added : List (List ℕ)) → zone < length i.zones → AppendsTo zone added i (synced (appended i zone added))
 append_synced i zone added there = record {
   differs = record {
     geometry = refl;
-    others = λ m less other. ap (λ z. z.blocks) (zone_of_synced (appended i zone added).zones m) ∙ ap (λ z. z.blocks) (elsewhere zone m (zone_appended i.geometry.capacity added) i.zones other);
+    others = λ m less other. ap (λ z. z.blocks) (zone_of_synced (appended i zone added).zones m) ∙ ap (λ z. z.blocks) (changed_elsewhere zone m (zone_appended i.geometry.capacity added) i.zones other);
   };
   behind =
       ap (λ z. z.blocks) (zone_of_synced (appended i zone added).zones zone)

@@ -1,5 +1,5 @@
 -- Tables whose extents and recovery points every crash keeps.
-use Rattle.std.specs.Prelude.{◌≡◌, ℕ, ◌+◌, ◌*◌, ◌%◌, ◌<◌, ◌≤◌, Bool, true, ◌&&◌, ◌||◌, List, length, None, nat_lt, nat_le, ◌==◌}
+use Rattle.std.specs.Prelude.{◌≡◌, ℕ, ◌+◌, ◌*◌, ◌%◌, ◌<◌, ◌≤◌, Bool, true, ◌&&◌, ◌||◌, length, None, nat_lt, nat_le, ◌==◌}
 use Rattle.std.specs.List.{AllByRecursion, list_all}
 use Rattle.zone_image.specs.Image.{Image, IsCrash, zone_at, zone_of, offset_of}
 use Rattle.record_model.specs.declared.types.Extent.{Extent}

@@ -1,5 +1,5 @@
 -- The tree that a crash leaves of an image at rest.
-use Rattle.std.specs.Prelude.{◌≡◌, ◌⊎◌, ℕ, List, map}
+use Rattle.std.specs.Prelude.{◌⊎◌, ℕ, List, map}
 use Rattle.zone_image.specs.Image.{Image, IsCrash}
 use Rattle.zone_image.specs.Changes.{appended}
 use Rattle.zone_image.specs.Infos.{IsValidImage}

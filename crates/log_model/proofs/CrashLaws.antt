@@ -8,7 +8,7 @@ use Rattle.zone_image.specs.Changes.{change_at, zone_appended, appended}
 use Rattle.log_model.specs.CrashLaws.{CrashKeepsFronts, DurableZoneStays, AppendCrashLeavesPart}
 
 -- what holds of zones place by place holds of those of a number
-zone_of_both : (R : Zone → Zone → Type 0) (zs ys : List Zone) (n : ℕ) → R no_zone no_zone → AllZip R zs ys → R (zone_in zs n) (zone_in ys n)
+pub zone_of_both : (R : Zone → Zone → Type 0) (zs ys : List Zone) (n : ℕ) → R no_zone no_zone → AllZip R zs ys → R (zone_in zs n) (zone_in ys n)
 zone_of_both R [] [] n none h = none
 zone_of_both R [] (y ∷ ys) n none h = absurd h
 zone_of_both R (z ∷ zs) [] n none h = absurd h
@@ -40,13 +40,13 @@ durable_zone_stays i j zone h durable =
     it.front ∙ take_all (length (zone_at j zone).blocks) (zone_at i zone).blocks (omega (arith, it.enough))
 
 -- the zone that was changed
-changed_here : (n : ℕ) (f : Zone → Zone) (zs : List Zone) → n < length zs → zone_in (change_at n f zs) n ≡ f (zone_in zs n)
+pub changed_here : (n : ℕ) (f : Zone → Zone) (zs : List Zone) → n < length zs → zone_in (change_at n f zs) n ≡ f (zone_in zs n)
 changed_here n f [] h = absurd (omega arith)
 changed_here zero f (z ∷ zs) h = refl
 changed_here (suc n) f (z ∷ zs) h = changed_here n f zs (omega arith)
 
 -- another zone
-changed_elsewhere : (n m : ℕ) (f : Zone → Zone) (zs : List Zone) → m ≢ n → zone_in (change_at n f zs) m ≡ zone_in zs m
+pub changed_elsewhere : (n m : ℕ) (f : Zone → Zone) (zs : List Zone) → m ≢ n → zone_in (change_at n f zs) m ≡ zone_in zs m
 changed_elsewhere n m f [] h = refl
 changed_elsewhere zero zero f (z ∷ zs) h = absurd (h refl)
 changed_elsewhere zero (suc m) f (z ∷ zs) h = refl

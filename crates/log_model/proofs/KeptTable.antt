@@ -14,7 +14,7 @@ use Rattle.log_model.specs.MountLaws.{KeepsFronts, SparseAlone, KeptTableStays}
 use Rattle.log_model.proofs.FrameLaws.{frames_stay_in_order}
 
 -- some of the extents, in their order
-data SomeOf : List Extent → List Extent → Type 0 where
+pub data SomeOf : List Extent → List Extent → Type 0 where
   none : SomeOf [] []
   without : {x : Extent} {xs ys : List Extent} → SomeOf xs ys → SomeOf xs (x ∷ ys)
   with : {x : Extent} {xs ys : List Extent} → SomeOf xs ys → SomeOf (x ∷ xs) (x ∷ ys)
@@ -48,7 +48,7 @@ any_some q (with {x = x} {xs = xs} {ys = ys} s) h =
     let parts = or_parts (q x) (list_any q ys) h in or_from (q x) (list_any q xs) parts.0 (any_some q s parts.1)
 
 -- of extents that share no byte, some share none
-overlap_some : {xs ys : List Extent} → SomeOf xs ys → overlap ys ≡ false → overlap xs ≡ false
+pub overlap_some : {xs ys : List Extent} → SomeOf xs ys → overlap ys ≡ false → overlap xs ≡ false
 overlap_some none h = h
 overlap_some (without {x = x} {ys = ys} s) h = overlap_some s (or_parts (list_any (share_a_byte x) ys) (overlap ys) h).1
 overlap_some (with {x = x} {xs = xs} {ys = ys} s) h =
@@ -66,7 +66,7 @@ found_front false true true true front whole rest all h g alone prefix = prefix
 found_front false true true false front whole rest all h g alone prefix = let wrong : false ≡ true = alone refl in cc
 
 -- the extents of a file that are found again are the first that were
-recovered_front : (i j : Image) (e : FileEntry) → KeepsFronts i j → 0 < i.geometry.block → SparseAlone e
+pub recovered_front : (i j : Image) (e : FileEntry) → KeepsFronts i j → 0 < i.geometry.block → SparseAlone e
     → has_valid_recovery_point j e ≡ true → has_valid_recovery_point i e ≡ true → IsPrefix (recovered_extents j e) (recovered_extents i e)
 recovered_front i j e keeps pos alone here there =
     found_front (e.active == no_active) (is_recovery_point j e.active) (is_recovery_point i e.active) e.sparse
@@ -74,7 +74,7 @@ recovered_front i j e keeps pos alone here there =
     (frames_stay_in_order i j e.active pos keeps.geometry (keeps.fronts (zone_of i.geometry e.active)))
 
 -- the extents of a table are some of those that were
-recovered_some : (i j : Image) (es : Table) → KeepsFronts i j → 0 < i.geometry.block → AllByRecursion SparseAlone es
+pub recovered_some : (i j : Image) (es : Table) → KeepsFronts i j → 0 < i.geometry.block → AllByRecursion SparseAlone es
     → list_all (has_valid_recovery_point j) es ≡ true → list_all (has_valid_recovery_point i) es ≡ true
     → SomeOf (all_extents (map (recovered_entry j) es)) (all_extents (map (recovered_entry i) es))
 recovered_some i j [] keeps pos alone here there = none
@@ -87,11 +87,11 @@ recovered_some i j (e ∷ es) keeps pos alone here there =
     (behind_all e.extents (recovered_extents j e) (recovered_extents i e) first) (recovered_some i j es keeps pos alone.1 a.1 b.1)
 
 -- the first of three rules that is broken
-first_broken : Bool → Bool → Bool → Option ℕ
+pub first_broken : Bool → Bool → Bool → Option ℕ
 first_broken written shared valid = if not written then Some 8 else if shared then Some 9 else if not valid then Some 10 else None
 
 -- a table that breaks no rule
-unbroken : (written shared valid : Bool) → first_broken written shared valid ≡ None
+pub unbroken : (written shared valid : Bool) → first_broken written shared valid ≡ None
     → (written ≡ true) × (shared ≡ false) × (valid ≡ true)
 unfolding first_broken
 unbroken false shared valid h = cc

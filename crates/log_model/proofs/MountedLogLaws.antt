@@ -22,7 +22,7 @@ use Rattle.log_model.proofs.SelectedLog.{Selected, selected_from}
 use Rattle.log_model.proofs.GrowingLog.{selected_has_snapshot}
 
 -- the table of an image whose log replays
-table_from : (i : Image) (log : LogAt) (greatest : ℕ) (es : Table) → HasTable i log greatest es → broken_rule i es ≡ None → table_in i ≡ Ok (map (recovered_entry i) es)
+pub table_from : (i : Image) (log : LogAt) (greatest : ℕ) (es : Table) → HasTable i log greatest es → broken_rule i es ≡ None → table_in i ≡ Ok (map (recovered_entry i) es)
 unfolding table_in table_of
 table_from i log greatest es h ok =
     ap (λ r. r >>= (λ l. table_of i l.0)) h.selected
@@ -42,18 +42,18 @@ no_payload zone (Torn block) h = cc
 no_payload zone (Bad block len stored computed) h = cc
 
 -- a selected log has a payload
-some_payload : (i : Image) (log : LogAt) (greatest : ℕ) (es : Table) → HasTable i log greatest es → log.scan.payloads ≢ []
+pub some_payload : (i : Image) (log : LogAt) (greatest : ℕ) (es : Table) → HasTable i log greatest es → log.scan.payloads ≢ []
 some_payload i log greatest es h none =
     let s : Selected i.geometry (scans_of i) log greatest = selected_from i.geometry (scans_of i) log greatest h.selected in
     no_payload log.zone log.scan.end (ap (snapshot_in log.zone log.scan.end) (sym none) ∙ selected_has_snapshot s.logs log s.current)
 
 -- one payload more, behind the first
-behind_first : (payloads : List (ℕ × List ℕ)) (p : ℕ × List ℕ) → payloads ≢ [] → drop 1 (payloads ++ p ∷ []) ≡ drop 1 payloads ++ p ∷ []
+pub behind_first : (payloads : List (ℕ × List ℕ)) (p : ℕ × List ℕ) → payloads ≢ [] → drop 1 (payloads ++ p ∷ []) ≡ drop 1 payloads ++ p ∷ []
 behind_first [] p some = absurd (some refl)
 behind_first (q ∷ qs) p some = refl
 
 -- without its first payload a log has no end record still
-end_behind : (payloads : List (ℕ × List ℕ)) → has_end payloads ≡ false → has_end (drop 1 payloads) ≡ false
+pub end_behind : (payloads : List (ℕ × List ℕ)) → has_end payloads ≡ false → has_end (drop 1 payloads) ≡ false
 end_behind [] h = refl
 end_behind (p ∷ ps) h = (or_parts (bytes_eq p.1 (u32 4)) (has_end ps) h).1
 

@@ -52,13 +52,13 @@ delete_is_replayed i es e name h = record {
 }
 
 -- an entry takes the place of its file where the others lose no more than these names
-placed : (taken : List (List ℕ)) (e old : FileEntry) (es : Table) → IdsRise 0 es → file_of e.id (take_names taken es) ≡ Some old
+pub placed : (taken : List (List ℕ)) (e old : FileEntry) (es : Table) → IdsRise 0 es → file_of e.id (take_names taken es) ≡ Some old
     → AllByRecursion (λ f. f.id ≢ e.id → names_left e.names f.names ≡ names_left taken f.names) es → set_entry e es ≡ put_in e (take_names taken es)
 placed taken e old es rise is same =
     ap (with_entry e) (taken_others e.names taken e.id es same) ∙ placed_in 0 e old (take_names taken es) (rise_taken 0 taken es rise) is
 
 -- an update of a known file puts it in its place, unless its size is wrong
-update_known : (u e : FileEntry) (es : Table) → file_of u.id es ≡ Some e → has_right_size (grown (Some e) u) ≡ true
+pub update_known : (u e : FileEntry) (es : Table) → file_of u.id es ≡ Some e → has_right_size (grown (Some e) u) ≡ true
     → after_record (Update u) es ≡ Ok (set_entry (grown (Some e) u) es)
 unfolding after_record
 update_known u e es is right =
@@ -70,7 +70,7 @@ abbrev renamed_to : FileEntry → List (List ℕ) → FileEntry
 renamed_to e names = record e { names = names }
 
 -- an update without extents has those that the file had
-names_update : (e : FileEntry) (names : List (List ℕ)) → grown (Some e) (with_names e names) ≡ renamed_to e names
+pub names_update : (e : FileEntry) (names : List (List ℕ)) → grown (Some e) (with_names e names) ≡ renamed_to e names
 names_update e names = ap (λ xs. record (renamed_to e names) { extents = xs }) (append-nil e.extents)
 
 -- what follows of each entry
@@ -79,7 +79,7 @@ all_from P Q [] step h = tt
 all_from P Q (f ∷ fs) step h = (step f h.0, all_from P Q fs step h.1)
 
 -- an update of a file's names is replayed, where the others lose no more than these, and the file none
-named_again : (i : Image) (es : Table) (e : FileEntry) (names taken : List (List ℕ)) (change : TreeFile → TreeFile) → IsTable es → file_of e.id es ≡ Some e
+pub named_again : (i : Image) (es : Table) (e : FileEntry) (names taken : List (List ℕ)) (change : TreeFile → TreeFile) → IsTable es → file_of e.id es ≡ Some e
     → has_right_size e ≡ true → names_left taken e.names ≡ e.names → file_in i (renamed_to e names) ≡ change (file_in i e)
     → AllByRecursion (λ f. f.id ≢ e.id → names_left names f.names ≡ names_left taken f.names) es
     → (next : Table) × (after_record (Update (with_names e names)) es ≡ Ok next) × (tree_of i next ≡ on_file e.id change (tree_of i (take_names taken es)))
@@ -112,22 +112,22 @@ filter_both p q r (x ∷ xs) same =
     ∙ filter_head (p x) (q x) q x (filter (λ y. not (r y)) xs) (filter (λ y. not (p y)) xs) refl (filter_both p q r xs same)
 
 -- names of two lists are taken one list after the other
-left_append : (xs ys names : List (List ℕ)) → names_left (xs ++ ys) names ≡ names_left ys (names_left xs names)
+pub left_append : (xs ys names : List (List ℕ)) → names_left (xs ++ ys) names ≡ names_left ys (names_left xs names)
 left_append xs ys names = filter_both (is_among xs) (is_among ys) (is_among (xs ++ ys)) names (λ n. list_any-append (λ m. bytes_eq m n) xs ys)
 
 -- a name that isn't among some isn't one of them
-unused_any : (names : List (List ℕ)) (new : List ℕ) → is_among names new ≡ false → list_any (is_among (new ∷ [])) names ≡ false
+pub unused_any : (names : List (List ℕ)) (new : List ℕ) → is_among names new ≡ false → list_any (is_among (new ∷ [])) names ≡ false
 unused_any [] new h = refl
 unused_any (n ∷ ns) new h =
     let parts = or_parts (bytes_eq n new) (is_among ns new) h in
     or_from (bytes_eq new n || false) (list_any (is_among (new ∷ [])) ns) (or_from (bytes_eq new n) false (bytes_eq_sym new n ∙ parts.0) refl) (unused_any ns new parts.1)
 
 -- a file without a name loses nothing where it is taken
-unused_kept : (names : List (List ℕ)) (new : List ℕ) → is_among names new ≡ false → names_left (new ∷ []) names ≡ names
+pub unused_kept : (names : List (List ℕ)) (new : List ℕ) → is_among names new ≡ false → names_left (new ∷ []) names ≡ names
 unused_kept names new h = kept_whole (is_among (new ∷ [])) names (unused_any names new h)
 
 -- the file of a name that no file has
-unused_table : (new : List ℕ) (es : Table) → IsTable es → IsUnused new es → take_names (new ∷ []) es ≡ es
+pub unused_table : (new : List ℕ) (es : Table) → IsTable es → IsUnused new es → take_names (new ∷ []) es ≡ es
 unused_table new es table unused =
     nothing_taken (new ∷ []) es
     (all_from (λ f. is_among f.names new ≡ false) (λ f. names_left (new ∷ []) f.names ≡ f.names) es (λ f h. unused_kept f.names new h) unused) table.named
@@ -150,7 +150,7 @@ link_is_replayed i es e old new table name right unused =
     }
 
 -- two tests that agree where a third fails keep the same of a list where it fails
-same_kept : (a q r : List ℕ → Bool) (xs : List (List ℕ)) → list_any a xs ≡ false → ((x : List ℕ) → a x ≡ false → r x ≡ q x)
+pub same_kept : (a q r : List ℕ → Bool) (xs : List (List ℕ)) → list_any a xs ≡ false → ((x : List ℕ) → a x ≡ false → r x ≡ q x)
     → filter (λ x. not (r x)) xs ≡ filter (λ x. not (q x)) xs
 same_kept a q r [] h same = refl
 same_kept a q r (x ∷ xs) h same =
@@ -171,7 +171,7 @@ renamed_head true old new m n rest had other same = ap (λ r. bytes_eq new n || 
 renamed_head false old new m n rest had other same = ap (λ b. b || rest) other ∙ same
 
 -- another name is among renamed ones where it is the new one, and there was an old one
-renamed_among : (old new n : List ℕ) (names : List (List ℕ)) → is_among names n ≡ false → is_among (renamed old new names) n ≡ (is_among names old && bytes_eq new n)
+pub renamed_among : (old new n : List ℕ) (names : List (List ℕ)) → is_among names n ≡ false → is_among (renamed old new names) n ≡ (is_among names old && bytes_eq new n)
 renamed_among old new n [] h = refl
 renamed_among old new n (m ∷ ms) h =
     let parts = or_parts (bytes_eq m n) (is_among ms n) h in
@@ -183,14 +183,14 @@ or_false true = refl
 or_false false = refl
 
 -- a file that shares no name loses the new name at most where renamed ones are taken
-renamed_left : (e f : FileEntry) (old new : List ℕ) → shares_name e f ≡ false → is_among e.names old ≡ true
+pub renamed_left : (e f : FileEntry) (old new : List ℕ) → shares_name e f ≡ false → is_among e.names old ≡ true
     → names_left (renamed old new e.names) f.names ≡ names_left (new ∷ []) f.names
 renamed_left e f old new apart among =
     same_kept (is_among e.names) (is_among (new ∷ [])) (is_among (renamed old new e.names)) f.names apart
     (λ n other. renamed_among old new n e.names other ∙ (ap (λ b. b && bytes_eq new n) among ∙ or_false (bytes_eq new n)))
 
 -- the update of a rename, replayed
-renamed_again : (i : Image) (es : Table) (e : FileEntry) (old new : List ℕ) → IsTable es → IsNameOf i es old e → has_right_size e ≡ true → is_among e.names new ≡ false
+pub renamed_again : (i : Image) (es : Table) (e : FileEntry) (old new : List ℕ) → IsTable es → IsNameOf i es old e → has_right_size e ≡ true → is_among e.names new ≡ false
     → (next : Table) × (after_record (Update (with_names e (renamed old new e.names))) es ≡ Ok next)
     × (tree_of i next ≡ on_file e.id (λ f. record f { names = renamed old new f.names }) (tree_of i (take_names (new ∷ []) es)))
 renamed_again i es e old new table name right free =
@@ -227,19 +227,19 @@ rename_over_is_replayed i es e other old new table name right there apart free =
     }
 
 -- no file has an id above all
-none_above : (id : ℕ) (es : Table) → AllByRecursion (λ f. f.id < id) es → file_of id es ≡ None
+pub none_above : (id : ℕ) (es : Table) → AllByRecursion (λ f. f.id < id) es → file_of id es ≡ None
 none_above id [] h = refl
 none_above id (f ∷ fs) h =
     ap (λ b. cond b (Some f) (file_of id fs)) (ne_eqb f.id id (λ same. omega (arith, h.0))) ∙ none_above id fs h.1
 
 -- all entries have other ids
-others_below : (id : ℕ) (es : Table) → AllByRecursion (λ f. f.id < id) es → others_of id es ≡ es
+pub others_below : (id : ℕ) (es : Table) → AllByRecursion (λ f. f.id < id) es → others_of id es ≡ es
 others_below id [] h = refl
 others_below id (f ∷ fs) h =
     ap (λ b. cond (not b) (f ∷ others_of id fs) (others_of id fs)) (ne_eqb f.id id (λ same. omega (arith, h.0))) ∙ ap (λ es. f ∷ es) (others_below id fs h.1)
 
 -- the update of a new file is its entry
-update_new : (u : FileEntry) (es : Table) → file_of u.id es ≡ None → has_right_size u ≡ true → after_record (Update u) es ≡ Ok (set_entry u es)
+pub update_new : (u : FileEntry) (es : Table) → file_of u.id es ≡ None → has_right_size u ≡ true → after_record (Update u) es ≡ Ok (set_entry u es)
 unfolding after_record
 update_new u es is right =
     ap (λ o. unless_broken (not (has_right_size (grown o u))) 5 (set_entry (grown o u) es)) is ∙ ap (λ b. unless_broken (not b) 5 (set_entry u es)) right
@@ -259,7 +259,7 @@ create_is_replayed i es id name hint sparse time table above unused =
     }
 
 -- no names taken leave all
-left_none : (names : List (List ℕ)) → names_left [] names ≡ names
+pub left_none : (names : List (List ℕ)) → names_left [] names ≡ names
 left_none [] = refl
 left_none (n ∷ ns) = ap (λ ms. n ∷ ms) (left_none ns)
 
@@ -269,7 +269,7 @@ all_of P [] h = tt
 all_of P (f ∷ fs) h = (h f, all_of P fs h)
 
 -- an entry with the names that its file has takes its place
-same_names : (es : Table) (e it : FileEntry) → IsTable es → file_of e.id es ≡ Some e → it.id ≡ e.id → it.names ≡ e.names → set_entry it es ≡ put_in it es
+pub same_names : (es : Table) (e it : FileEntry) → IsTable es → file_of e.id es ≡ Some e → it.id ≡ e.id → it.names ≡ e.names → set_entry it es ≡ put_in it es
 same_names es e it table is same_id same_list =
     let named : is_named e ≡ true = file_has (λ f. is_named f ≡ true) e.id es e table.named is in
     let found : file_of it.id (take_names [] es) ≡ Some e =
@@ -293,7 +293,7 @@ tree_same_names i es e it change table is same changed =
     (only_file 0 e.id e es table.ids is))
 
 -- the sizes of joined extents
-size_append : (xs ys : List Extent) → size_of (xs ++ ys) ≡ size_of xs + size_of ys
+pub size_append : (xs ys : List Extent) → size_of (xs ++ ys) ≡ size_of xs + size_of ys
 size_append xs ys = sum_by-append (λ x. x.len) xs ys
 
 pub grow_is_replayed : GrowIsReplayed

@@ -16,16 +16,16 @@ use Rattle.log_model.proofs.SelectedLog.{went_on, ok_is}
 use Rattle.log_model.proofs.DecodedNames.{not_ended, placed_is}
 
 -- a list of right sizes
-sized_from : (es : Table) → list_all has_right_size es ≡ true → AreSized es
+pub sized_from : (es : Table) → list_all has_right_size es ≡ true → AreSized es
 sized_from [] h = tt
 sized_from (e ∷ es) h = let parts = and_parts (has_right_size e) (list_all has_right_size es) h in (parts.0, sized_from es parts.1)
 
 -- names that are taken change no size
-sized_taken : (ns : List (List ℕ)) (es : Table) → AreSized es → AreSized (take_names ns es)
+pub sized_taken : (ns : List (List ℕ)) (es : Table) → AreSized es → AreSized (take_names ns es)
 sized_taken ns es h = all_taken (λ e. has_right_size e ≡ true) (λ e. has_right_size e ≡ true) ns es (λ e right. right) h
 
 -- an entry of the right size, set
-sized_set : (e : FileEntry) (es : Table) → has_right_size e ≡ true → AreSized es → AreSized (set_entry e es)
+pub sized_set : (e : FileEntry) (es : Table) → has_right_size e ≡ true → AreSized es → AreSized (set_entry e es)
 sized_set e es right h =
     all_placed (λ x. has_right_size x ≡ true) e (take_names e.names (others_of e.id es)) right
     (sized_taken e.names (others_of e.id es) (all_others (λ x. has_right_size x ≡ true) e.id es h))

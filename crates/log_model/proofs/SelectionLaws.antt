@@ -96,7 +96,7 @@ greatest_either true kept log n h = omega arith
 greatest_either false kept log n h = omega arith
 
 -- fewer logs have no greater sequence
-greatest_filter : (logs : List LogAt) → greatest_sequence (filter counts logs) ≤ greatest_sequence logs
+pub greatest_filter : (logs : List LogAt) → greatest_sequence (filter counts logs) ≤ greatest_sequence logs
 greatest_filter [] = omega arith
 greatest_filter (log ∷ logs) = greatest_either (counts log) (filter counts logs) log (greatest_sequence logs) (greatest_filter logs)
 

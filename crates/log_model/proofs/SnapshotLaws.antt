@@ -22,13 +22,13 @@ no_such_id from id (f ∷ fs) rise h =
     or_from (f.id == id) (list_any (λ x. x.id == id) fs) (ne_eqb f.id id (λ same. omega (arith, rise.0))) (no_such_id (f.id + 1) id fs rise.1 (omega (arith, rise.0)))
 
 -- no id comes twice
-no_id_twice : (from : ℕ) (es : Table) → IdsRise from es → repeats_id es ≡ false
+pub no_id_twice : (from : ℕ) (es : Table) → IdsRise from es → repeats_id es ≡ false
 no_id_twice from [] rise = refl
 no_id_twice from (e ∷ es) rise =
     or_from (list_any (λ f. f.id == e.id) es) (repeats_id es) (no_such_id (e.id + 1) e.id es rise.1 (omega arith)) (no_id_twice (e.id + 1) es rise.1)
 
 -- entries of other ids share no name with this one
-none_shared : (from : ℕ) (e : FileEntry) (es : Table) → IdsRise from es → e.id < from → AllByRecursion (λ f. f.id ≢ e.id → shares_name e f ≡ false) es
+pub none_shared : (from : ℕ) (e : FileEntry) (es : Table) → IdsRise from es → e.id < from → AllByRecursion (λ f. f.id ≢ e.id → shares_name e f ≡ false) es
     → list_any (shares_name e) es ≡ false
 none_shared from e [] rise h apart = refl
 none_shared from e (f ∷ fs) rise h apart =
@@ -36,7 +36,7 @@ none_shared from e (f ∷ fs) rise h apart =
     (none_shared (f.id + 1) e fs rise.1 (omega (arith, rise.0)) apart.1)
 
 -- no name comes in two files
-no_name_twice : (from : ℕ) (es : Table) → IdsRise from es → ((e : FileEntry) → file_of e.id es ≡ Some e → AllByRecursion (λ f. f.id ≢ e.id → shares_name e f ≡ false) es)
+pub no_name_twice : (from : ℕ) (es : Table) → IdsRise from es → ((e : FileEntry) → file_of e.id es ≡ Some e → AllByRecursion (λ f. f.id ≢ e.id → shares_name e f ≡ false) es)
     → repeats_name es ≡ false
 no_name_twice from [] rise apart = refl
 no_name_twice from (e ∷ es) rise apart =
@@ -49,7 +49,7 @@ no_name_twice from (e ∷ es) rise apart =
     (apart x found).1))
 
 -- every size is right
-sizes_right : (es : Table) → AllByRecursion (λ e. has_right_size e ≡ true) es → list_all has_right_size es ≡ true
+pub sizes_right : (es : Table) → AllByRecursion (λ e. has_right_size e ≡ true) es → list_all has_right_size es ≡ true
 sizes_right [] h = refl
 sizes_right (e ∷ es) h = and_from (has_right_size e) (list_all has_right_size es) h.0 (sizes_right es h.1)
 

@@ -45,7 +45,7 @@ apart_either true q n kept h g = g
 apart_either false q n kept h g = or_from (q n) (list_any q kept) h g
 
 -- a file of which these names were taken has none of them
-taken_apart : (ns names : List (List ℕ)) → list_any (is_among ns) (names_left ns names) ≡ false
+pub taken_apart : (ns names : List (List ℕ)) → list_any (is_among ns) (names_left ns names) ≡ false
 taken_apart ns [] = refl
 taken_apart ns (n ∷ names) = apart_either (is_among ns n) (is_among ns) n (names_left ns names) refl (taken_apart ns names)
 
@@ -57,7 +57,7 @@ apart_from_head x xs (y ∷ ys) h =
     or_from (bytes_eq y x) (is_among ys x) (bytes_eq_sym y x ∙ (or_parts (bytes_eq x y) (is_among xs y) parts.0).0) (apart_from_head x xs ys parts.1)
 
 -- names of which none is among others, the other way round
-among_sym : (xs ys : List (List ℕ)) → list_any (is_among xs) ys ≡ false → list_any (is_among ys) xs ≡ false
+pub among_sym : (xs ys : List (List ℕ)) → list_any (is_among xs) ys ≡ false → list_any (is_among ys) xs ≡ false
 among_sym [] ys h = refl
 among_sym (x ∷ xs) ys h =
     or_from (is_among ys x) (list_any (is_among ys) xs) (apart_from_head x xs ys h)
@@ -75,13 +75,13 @@ all_taken P Q ns (f ∷ fs) step h =
     all_either Q (is_named (without_names ns f)) (without_names ns f) (take_names ns fs) (λ named. step f h.0) (all_taken P Q ns fs step h.1)
 
 -- each entry that is kept has a name
-named_taken : (ns : List (List ℕ)) (es : Table) → AllByRecursion (λ e. is_named e ≡ true) (take_names ns es)
+pub named_taken : (ns : List (List ℕ)) (es : Table) → AllByRecursion (λ e. is_named e ≡ true) (take_names ns es)
 named_taken ns [] = tt
 named_taken ns (f ∷ fs) =
     all_either (λ e. is_named e ≡ true) (is_named (without_names ns f)) (without_names ns f) (take_names ns fs) (λ named. named) (named_taken ns fs)
 
 -- the entry that a file was before names were taken
-IsTakenFrom : List (List ℕ) → ℕ → FileEntry → Table → Type 0
+pub IsTakenFrom : List (List ℕ) → ℕ → FileEntry → Table → Type 0
 IsTakenFrom ns id e es = (old : FileEntry) × (file_of id es ≡ Some old) × (without_names ns old ≡ e)
 
 -- the first file, or one behind it
@@ -103,7 +103,7 @@ origin_head false false ns id f e fs test rise behind is =
     let rest = behind is in (rest.0, ap (λ b. cond b (Some f) (file_of id fs)) test ∙ rest.1, rest.2)
 
 -- the file was one before
-taken_origin : (from : ℕ) (ns : List (List ℕ)) (id : ℕ) (e : FileEntry) (es : Table) → IdsRise from es → file_of id (take_names ns es) ≡ Some e → IsTakenFrom ns id e es
+pub taken_origin : (from : ℕ) (ns : List (List ℕ)) (id : ℕ) (e : FileEntry) (es : Table) → IdsRise from es → file_of id (take_names ns es) ≡ Some e → IsTakenFrom ns id e es
 unfolding IsTakenFrom
 taken_origin from ns id e [] rise is = cc
 taken_origin from ns id e (f ∷ fs) rise is =
@@ -131,14 +131,14 @@ all_others P id [] h = tt
 all_others P id (f ∷ fs) h = all_either P (not (f.id == id)) f (others_of id fs) (λ other. h.0) (all_others P id fs h.1)
 
 -- they have other ids
-others_other : (id : ℕ) (es : Table) → AllByRecursion (λ f. f.id ≢ id) (others_of id es)
+pub others_other : (id : ℕ) (es : Table) → AllByRecursion (λ f. f.id ≢ id) (others_of id es)
 others_other id [] = tt
 others_other id (f ∷ fs) =
     all_either (λ x. x.id ≢ id) (not (f.id == id)) f (others_of id fs)
     (λ other same. both_ways (not (f.id == id)) (ap not (eq-eqb f.id id same)) other) (others_other id fs)
 
 -- their ids rise
-rise_others : (from id : ℕ) (es : Table) → IdsRise from es → IdsRise from (others_of id es)
+pub rise_others : (from id : ℕ) (es : Table) → IdsRise from es → IdsRise from (others_of id es)
 rise_others from id [] rise = tt
 rise_others from id (f ∷ fs) rise = rise_cond (not (f.id == id)) from f (others_of id fs) rise.0 (rise_others (f.id + 1) id fs rise.1)
 
@@ -152,13 +152,13 @@ others_head false true id x f e fs gone here away behind is = sym (ap (λ b. con
 others_head false false id x f e fs gone here away behind is = behind (sym (ap (λ b. cond b (Some f) (file_of x (others_of id fs))) here) ∙ is)
 
 -- a file among those of other ids is one of all
-others_origin : (from id x : ℕ) (e : FileEntry) (es : Table) → IdsRise from es → x ≢ id → file_of x (others_of id es) ≡ Some e → file_of x es ≡ Some e
+pub others_origin : (from id x : ℕ) (e : FileEntry) (es : Table) → IdsRise from es → x ≢ id → file_of x (others_of id es) ≡ Some e → file_of x es ≡ Some e
 others_origin from id x e [] rise away is = is
 others_origin from id x e (f ∷ fs) rise away is =
     others_head (f.id == id) (f.id == x) id x f e fs refl refl away (others_origin (f.id + 1) id x e fs rise.1 away) is
 
 -- a table stays one without the entry of an id
-others_table : (id : ℕ) (es : Table) → IsTable es → IsTable (others_of id es)
+pub others_table : (id : ℕ) (es : Table) → IsTable es → IsTable (others_of id es)
 others_table id es table = record {
   ids = rise_others 0 id es table.ids;
   named = all_others (λ e. is_named e ≡ true) id es table.named;
@@ -182,7 +182,7 @@ rise_head false false from e f fs less is other low rise behind =
     (rise.0, behind (above_from e.id f.id (ltb-false e.id f.id less) (eqb-false e.id f.id is)))
 
 -- the ids rise where an entry takes its place
-rise_placed : (from : ℕ) (e : FileEntry) (es : Table) → IdsRise from es → AllByRecursion (λ f. f.id ≢ e.id) es → from ≤ e.id → IdsRise from (with_entry e es)
+pub rise_placed : (from : ℕ) (e : FileEntry) (es : Table) → IdsRise from es → AllByRecursion (λ f. f.id ≢ e.id) es → from ≤ e.id → IdsRise from (with_entry e es)
 rise_placed from e [] rise other low = (low, tt)
 rise_placed from e (f ∷ fs) rise other low =
     rise_head (nat_lt e.id f.id) (e.id == f.id) from e f fs refl refl other.0 low rise (rise_placed (f.id + 1) e fs rise.1 other.1)
@@ -230,7 +230,7 @@ placed_origin id e it (f ∷ fs) other is =
     placed_origin_head (nat_lt e.id f.id) (e.id == f.id) id e it f fs refl other.0 (placed_origin id e it fs other.1) is
 
 -- a table stays one with one entry more, which has a name and none of another
-placed_table : (e : FileEntry) (es : Table) → is_named e ≡ true → IsTable es → AllByRecursion (λ f. f.id ≢ e.id) es → AllByRecursion (λ f. shares_name e f ≡ false) es
+pub placed_table : (e : FileEntry) (es : Table) → is_named e ≡ true → IsTable es → AllByRecursion (λ f. f.id ≢ e.id) es → AllByRecursion (λ f. shares_name e f ≡ false) es
     → IsTable (with_entry e es)
 placed_table e es named table other apart = record {
   ids = rise_placed 0 e es table.ids other (omega arith);

@@ -8,7 +8,7 @@ use Rattle.record_model.specs.Decoding.{record_of}
 use Rattle.record_model.specs.declared.types.Record.{Record}
 use Rattle.record_model.specs.declared.types.Record.TheVariants.{Snapshot}
 use Rattle.record_model.specs.declared.fault.DecodeFault.{DecodeFault}
-use Rattle.superblock_core.specs.Superblock.{u32_at, superblock_of}
+use Rattle.superblock_core.specs.Superblock.{u32_at, superblock_of, fits}
 use Rattle.log_model.specs.LogScan.{Scan, ScanEnd, scan, has_end, is_clean}
 use Rattle.log_model.specs.LogScan.ScanEnd.{Clean, Torn, Bad}
 use Rattle.superblock_core.specs.declared.superblock.Superblock.{Superblock}
@@ -36,7 +36,7 @@ bad_record len stored computed = if len == 0 then why.NoLength else why.Sum stor
 
 -- a superblock that states this device
 abbrev pub fits_device : Geometry → Superblock → Bool
-fits_device g s = (s.block == g.block) && (s.zone_blocks == g.zone_blocks) && (s.zones == g.zones)
+fits_device g s = fits s g
 
 -- the log of a zone, by what its first payload is read as
 abbrev pub log_with : Geometry → ℕ → Scan → List ℕ → Result Superblock SbError → Result (Option LogAt) Refusal

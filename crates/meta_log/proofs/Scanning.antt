@@ -1,5 +1,5 @@
 -- A scan, record by record.
-use Rattle.std.proofs.Common.{◌≡◌, ℕ, zero, suc, ◌+◌, ◌-◌, ◌<◌, ◌≤◌, List, [], ◌∷◌, length, drop, refl, sym, ap, ◌∙◌, arith, add-one, length-drop}
+use Rattle.std.proofs.Common.{◌≡◌, ℕ, ◌+◌, ◌<◌, ◌≤◌, List, [], ◌∷◌, length, drop, refl, sym, ap, ◌∙◌, arith, length-drop}
 use Rattle.log_model.specs.LogScan.{Item, Scan, first_item, scan_after, scan_from, scan_within, with_payload}
 use Rattle.log_model.specs.LogScan.Item.{NoMore, Unfinished, Wrong, Whole}
 use Rattle.std.specs.Prelude.{Option, Some, None}

@@ -3,7 +3,6 @@ use Rattle.std.specs.Prelude.{◌≡◌, ℕ, ◌+◌, ◌^◌, ◌<◌, ◌≤�
 use Rattle.log_model.specs.LogScan.{Item, Scan, ScanEnd, blocks_of, first_item, scan_from, with_payload}
 use Rattle.log_model.specs.LogScan.Item.{NoMore, Unfinished, Wrong, Whole}
 use Rattle.log_model.specs.LogScan.ScanEnd.{Clean, Torn, Bad}
-use Rattle.meta_log.specs.Ends.{scan_end}
 use Rattle.meta_log.specs.declared.item.LogEnd.TheVariants as log_end
 use Rattle.meta_log.specs.declared.item.Found.{Found}
 use Rattle.meta_log.specs.declared.item.Found.TheVariants as found

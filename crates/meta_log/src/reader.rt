@@ -69,6 +69,7 @@ impl LogReader {
         ensures after { IfOk result (λ item. self.new ≡ reader_after self.old item) }
         ensures err { OnErr result (self.new ≡ self.old) }
         ensures same { IsSameLog self.old self.new }
+        ensures within { self.new.next ≤ self.new.written }
         ensures device { OnlyReads D.known D.geometry D.infos D.tells D.image D.tick D.since D.failed_changes dev.old dev.new }
         ensures cause { HasCause (D.faults dev.old) (D.faults dev.new) (IsErrOf result LogError.DevFault) }
     {

@@ -47,6 +47,13 @@ impl Extents {
     {
         &self.items
     }
+
+    /// The extents, given back as a vector, without taking memory.
+    pub fn into_vec(self) -> Vec<Extent>
+        ensures { result.items ≡ self }
+    {
+        self.items
+    }
 }
 
 /// The names of a file. Contracts see a list of lists of bytes.
@@ -76,6 +83,13 @@ impl Names {
         ensures { result.now ≡ self.now }
     {
         &self.items
+    }
+
+    /// The names, given back as a vector, without taking memory.
+    pub fn into_vec(self) -> Vec<Name>
+        ensures { result.items ≡ self }
+    {
+        self.items
     }
 }
 
@@ -128,6 +142,13 @@ impl Files {
         ensures { result.now ≡ self.now }
     {
         &self.items
+    }
+
+    /// The files, given back as a vector, without taking memory.
+    pub fn into_vec(self) -> Vec<FileEntry>
+        ensures { result.items ≡ self }
+    {
+        self.items
     }
 }
 
