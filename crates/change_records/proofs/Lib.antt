@@ -1,0 +1,4 @@
+pub mod EntryLaws
+pub mod NameRecords
+pub mod RenameRecords
+pub mod DataRecords

@@ -1,0 +1,3 @@
+pub mod Recorded
+pub mod NameRecords
+pub mod DataRecords
