@@ -36,7 +36,7 @@ is_row r rows valid is =
     }
 
 -- what follows of each row
-all_from_rows : (P Q : TableRow → Type 0) (rows : List TableRow) → ((q : TableRow) → P q → Q q) → AllByRecursion P rows → AllByRecursion Q rows
+pub all_from_rows : (P Q : TableRow → Type 0) (rows : List TableRow) → ((q : TableRow) → P q → Q q) → AllByRecursion P rows → AllByRecursion Q rows
 all_from_rows P Q [] step h = tt
 all_from_rows P Q (q ∷ qs) step h = (step q h.0, all_from_rows P Q qs step h.1)
 

@@ -69,7 +69,7 @@ after_names rows before r names new gets =
     (still_found rows before r names new gets)
 
 -- the update of its names makes that
-names_recorded : (rows before : List TableRow) (r : TableRow) (names : List (List ℕ)) (new : List ℕ) → GetsNames rows before r names new
+pub names_recorded : (rows before : List TableRow) (r : TableRow) (names : List (List ℕ)) (new : List ℕ) → GetsNames rows before r names new
     → Makes (entry_update (with_names names r).entry) rows (on_row r.entry.id (with_names names) before)
 names_recorded rows before r names new gets =
     let e : FileEntry = r.entry in
@@ -183,7 +183,7 @@ not_among q (n ∷ ns) new none is =
     choice false same here behind h = behind h
 
 -- a name of another file isn't this one's
-not_both : (rows : List TableRow) (r other : TableRow) (old new : List ℕ) → AreValid rows → row_named old rows ≡ Some r → row_named new rows ≡ Some other
+pub not_both : (rows : List TableRow) (r other : TableRow) (old new : List ℕ) → AreValid rows → row_named old rows ≡ Some r → row_named new rows ≡ Some other
     → (other.entry.id ≡ r.entry.id → ⊥) → is_among r.entry.names new ≡ false
 not_both rows r other old new valid is there differs =
     let row = named_row 0 old rows r valid.table.ids is in
@@ -191,6 +191,19 @@ not_both rows r other old new valid is there differs =
     not_among (is_among r.entry.names) other.entry.names new
     (file_has (λ f. f.id ≢ r.entry.id → shares_name r.entry f ≡ false) other.entry.id (entries rows) other.entry (valid.table.apart r.entry row.found) it.found differs)
     it.among
+
+-- the update of a file under a name that no file had
+pub renamed_free : (rows : List TableRow) (r : TableRow) (old new : List ℕ) → AreValid rows → row_named old rows ≡ Some r → row_named new rows ≡ None
+    → GetsNames rows rows r (renamed old new r.entry.names) new
+renamed_free rows r old new valid is none =
+    let row = named_row 0 old rows r valid.table.ids is in
+    rename_gets rows rows r old new valid is (not_its_own rows r new none row.found) (sym (unused_table new (entries rows) valid.table (unnamed new rows none)))
+
+-- the update of a file under a name that another file had
+pub renamed_over : (rows : List TableRow) (r other : TableRow) (old new : List ℕ) → AreValid rows → row_named old rows ≡ Some r → row_named new rows ≡ Some other
+    → (other.entry.id ≡ r.entry.id → ⊥) → GetsNames rows (drop_name new rows) r (renamed old new r.entry.names) new
+renamed_over rows r other old new valid is there differs =
+    rename_gets rows (drop_name new rows) r old new valid is (not_both rows r other old new valid is there differs) (entries_dropped new rows)
 
 -- a rename onto a name of another file, or of the file itself
 rename_choice : (b : Bool) (rows : List TableRow) (r other : TableRow) (old new : List ℕ) → (other.entry.id == r.entry.id) ≡ b → AreValid rows → row_named old rows ≡ Some r
@@ -202,15 +215,13 @@ rename_choice true rows r other old new same valid is there =
     subst (λ e. Makes (entry_update e) rows rows) (sym (entry_found r.entry.id rows r.entry r.entry row.found)) (same_recorded rows r.entry valid row.found)
 rename_choice false rows r other old new same valid is there =
     renamed_recorded rows (drop_name new rows) r (renamed old new r.entry.names) new
-    (rename_gets rows (drop_name new rows) r old new valid is (not_both rows r other old new valid is there (eqb-false other.entry.id r.entry.id same)) (entries_dropped new rows))
+    (renamed_over rows r other old new valid is there (eqb-false other.entry.id r.entry.id same))
 
 -- a rename, by who has the new name
 rename_cases : (there : Option TableRow) (rows : List TableRow) (r : TableRow) (old new : List ℕ) → AreValid rows → row_named old rows ≡ Some r → row_named new rows ≡ there
     → Makes (entry_update (entry_in r.entry.id (renamed_rows r there old new rows) r.entry)) rows (renamed_rows r there old new rows)
 rename_cases None rows r old new valid is none =
-    let row = named_row 0 old rows r valid.table.ids is in
-    renamed_recorded rows rows r (renamed old new r.entry.names) new
-    (rename_gets rows rows r old new valid is (not_its_own rows r new none row.found) (sym (unused_table new (entries rows) valid.table (unnamed new rows none))))
+    renamed_recorded rows rows r (renamed old new r.entry.names) new (renamed_free rows r old new valid is none)
 rename_cases (Some other) rows r old new valid is there = rename_choice (other.entry.id == r.entry.id) rows r other old new refl valid is there
 
 pub rename_is_recorded : RenameIsRecorded

@@ -1,3 +1,5 @@
 pub mod Recorded
 pub mod NameRecords
 pub mod DataRecords
+pub mod PinnedRows
+pub mod TreesAfter

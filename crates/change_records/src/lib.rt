@@ -4,3 +4,5 @@
 
 pub mod data;
 pub mod names;
+pub mod pinned;
+pub mod trees;
