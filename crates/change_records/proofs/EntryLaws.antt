@@ -65,6 +65,17 @@ named_row from name [] r rise is = absurd cc
 named_row from name (q ∷ qs) r rise is =
     named_choice (is_among q.entry.names name) from name q r qs refl rise.0 (named_row (q.entry.id + 1) name qs r rise.1) is
 
+-- the first row with a name, or one behind it
+has_choice : (b : Bool) (name : List ℕ) (q r : TableRow) (later : Option TableRow) → is_among q.entry.names name ≡ b → (later ≡ Some r → is_among r.entry.names name ≡ true)
+    → (if b then Some q else later) ≡ Some r → is_among r.entry.names name ≡ true
+has_choice true name q r later has behind is = let same : q ≡ r = cc in ap (λ p. is_among p.entry.names name) (sym same) ∙ has
+has_choice false name q r later has behind is = behind is
+
+-- the row of a name has it
+pub has_the_name : (name : List ℕ) (rows : List TableRow) (r : TableRow) → row_named name rows ≡ Some r → is_among r.entry.names name ≡ true
+has_the_name name [] r is = absurd cc
+has_the_name name (q ∷ qs) r is = has_choice (is_among q.entry.names name) name q r (row_named name qs) refl (has_the_name name qs r) is
+
 -- a name that no row has, by the first row and by those behind it
 unnamed_choice : (b : Bool) (name : List ℕ) (q : TableRow) (qs : List TableRow) → is_among q.entry.names name ≡ b
     → (row_named name qs ≡ None → IsUnused name (entries qs)) → (if b then Some q else row_named name qs) ≡ None → IsUnused name (entries (q ∷ qs))

@@ -5,3 +5,5 @@ pub mod DataRecords
 pub mod FewerExtents
 pub mod PinnedRows
 pub mod TreesAfter
+pub mod WrittenNames
+pub mod Writable

@@ -116,7 +116,7 @@ pub entry_found : (id : ℕ) (rows : List TableRow) (e other : FileEntry) → fi
 entry_found id rows e other is = ap (λ o. unwrap_or o other) (row_entry id rows ∙ is)
 
 -- the file's entry after it
-entry_after : (rows before : List TableRow) (r : TableRow) (names : List (List ℕ)) (new : List ℕ) → GetsNames rows before r names new
+pub entry_after : (rows before : List TableRow) (r : TableRow) (names : List (List ℕ)) (new : List ℕ) → GetsNames rows before r names new
     → entry_in r.entry.id (on_row r.entry.id (with_names names) before) r.entry ≡ (with_names names r).entry
 entry_after rows before r names new gets =
     entry_found r.entry.id (on_row r.entry.id (with_names names) before) (renamed_to r.entry names) r.entry

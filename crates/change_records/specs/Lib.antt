@@ -3,3 +3,4 @@ pub mod NameRecords
 pub mod DataRecords
 pub mod PinnedRows
 pub mod TreesAfter
+pub mod Writable

@@ -3,6 +3,7 @@
 #![tactic(auto)]
 
 pub mod data;
+pub mod grammar;
 pub mod names;
 pub mod pinned;
 pub mod trees;
