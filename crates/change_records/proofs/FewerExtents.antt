@@ -1,6 +1,6 @@
 -- Tables with fewer entries, or with entries under other names, have no more extents.
 use Rattle.std.specs.Prelude.{◌≡◌, ℕ, Bool, true, false, List, [], ◌∷◌, ◌++◌, map, flat_map, refl}
-use Rattle.std.proofs.Common.{◌∙◌, ap, sym, subst, ⊎_elim}
+use Rattle.std.proofs.Common.{◌∙◌, ap, sym, subst, ⊎_elim, inl, inr}
 use Rattle.std.proofs.lemmas.Bool.{or_parts, or_from, and_parts, and_from}
 use mathlib.Core.Logic.{◌⊎◌}
 use Rattle.std.specs.List.{AllByRecursion, list_any, list_all}
@@ -8,39 +8,48 @@ use Rattle.record_model.specs.declared.types.Extent.{Extent}
 use Rattle.record_model.specs.declared.types.FileEntry.{FileEntry}
 use Rattle.log_model.specs.FileTable.{Table}
 use Rattle.log_model.specs.Mounted.{all_extents, share_a_byte, overlap}
+use Rattle.change_records.specs.PinnedRows.{AreSomeOf}
 
--- extents that pass each test that others pass
-pub record IsFewer (ys xs : List Extent) : Type 0 where
-  pub any : (q : Extent → Bool) → list_any q xs ≡ false → list_any q ys ≡ false
-  pub all : (p : Extent → Bool) → list_all p xs ≡ true → list_all p ys ≡ true
-  pub apart : overlap xs ≡ false → overlap ys ≡ false
-
--- the same extents
-fewer_same : (xs : List Extent) → IsFewer xs xs
-fewer_same xs = record { any = λ q h. h; all = λ p h. h; apart = λ h. h }
+-- all of them
+pub same_extents : (xs : List Extent) → AreSomeOf xs xs
+same_extents [] = refl
+same_extents (x ∷ xs) = inr (xs, refl, same_extents xs)
 
 -- behind some that both have
-fewer_behind : (front xs ys : List Extent) → IsFewer ys xs → IsFewer (front ++ ys) (front ++ xs)
-fewer_behind [] xs ys h = h
-fewer_behind (x ∷ front) xs ys h =
-    let rest = fewer_behind front xs ys h in record {
-      any = λ q none. let parts = or_parts (q x) (list_any q (front ++ xs)) none in or_from (q x) (list_any q (front ++ ys)) parts.0 (rest.any q parts.1);
-      all = λ p each. let parts = and_parts (p x) (list_all p (front ++ xs)) each in and_from (p x) (list_all p (front ++ ys)) parts.0 (rest.all p parts.1);
-      apart =
-          λ none.
-          let parts = or_parts (list_any (share_a_byte x) (front ++ xs)) (overlap (front ++ xs)) none in
-          or_from (list_any (share_a_byte x) (front ++ ys)) (overlap (front ++ ys)) (rest.any (share_a_byte x) parts.0) (rest.apart parts.1);
-    }
+some_behind : (front xs ys : List Extent) → AreSomeOf ys xs → AreSomeOf (front ++ ys) (front ++ xs)
+some_behind [] xs ys h = h
+some_behind (x ∷ front) xs ys h = inr (front ++ ys, refl, some_behind front xs ys h)
 
 -- behind some that only the others have
-fewer_without : (front xs ys : List Extent) → IsFewer ys xs → IsFewer ys (front ++ xs)
-fewer_without [] xs ys h = h
-fewer_without (x ∷ front) xs ys h =
-    let rest = fewer_without front xs ys h in record {
-      any = λ q none. rest.any q (or_parts (q x) (list_any q (front ++ xs)) none).1;
-      all = λ p each. rest.all p (and_parts (p x) (list_all p (front ++ xs)) each).1;
-      apart = λ none. rest.apart (or_parts (list_any (share_a_byte x) (front ++ xs)) (overlap (front ++ xs)) none).1;
-    }
+some_without : (front xs ys : List Extent) → AreSomeOf ys xs → AreSomeOf ys (front ++ xs)
+some_without [] xs ys h = h
+some_without (x ∷ front) xs ys h = inl (some_without front xs ys h)
+
+-- what no extent passes none of some passes
+pub some_fail : (q : Extent → Bool) (xs ys : List Extent) → AreSomeOf ys xs → list_any q xs ≡ false → list_any q ys ≡ false
+some_fail q [] ys h none = ap (list_any q) h
+some_fail q (x ∷ xs) ys h none =
+    let parts = or_parts (q x) (list_any q xs) none in
+    ⊎_elim (λ gone. some_fail q xs ys gone parts.1)
+    (λ kept. ap (list_any q) kept.1 ∙ or_from (q x) (list_any q kept.0) parts.0 (some_fail q xs kept.0 kept.2 parts.1)) h
+
+-- what each extent passes each of some passes
+pub some_pass : (p : Extent → Bool) (xs ys : List Extent) → AreSomeOf ys xs → list_all p xs ≡ true → list_all p ys ≡ true
+some_pass p [] ys h each = ap (list_all p) h
+some_pass p (x ∷ xs) ys h each =
+    let parts = and_parts (p x) (list_all p xs) each in
+    ⊎_elim (λ gone. some_pass p xs ys gone parts.1)
+    (λ kept. ap (list_all p) kept.1 ∙ and_from (p x) (list_all p kept.0) parts.0 (some_pass p xs kept.0 kept.2 parts.1)) h
+
+-- some of extents that share no byte share none
+pub some_apart : (xs ys : List Extent) → AreSomeOf ys xs → overlap xs ≡ false → overlap ys ≡ false
+some_apart [] ys h none = ap overlap h
+some_apart (x ∷ xs) ys h none =
+    let parts = or_parts (list_any (share_a_byte x) xs) (overlap xs) none in
+    ⊎_elim (λ gone. some_apart xs ys gone parts.1)
+    (λ kept.
+    ap overlap kept.1
+    ∙ or_from (list_any (share_a_byte x) kept.0) (overlap kept.0) (some_fail (share_a_byte x) xs kept.0 kept.2 parts.0) (some_apart xs kept.0 kept.2 parts.1)) h
 
 -- the same entry with other names
 abbrev pub under_names : FileEntry → List (List ℕ) → FileEntry
@@ -51,16 +60,16 @@ abbrev pub IsLess : Table → Table → Type 0
 IsLess next [] = next ≡ []
 IsLess next (e ∷ es) = IsLess next es ⊎ ((names : List (List ℕ)) × (rest : Table) × (next ≡ under_names e names ∷ rest) × IsLess rest es)
 
--- it has no more of what each entry has whatever its names
-pub fewer_of : (part : FileEntry → List Extent) → ((e : FileEntry) (names : List (List ℕ)) → part (under_names e names) ≡ part e) → (next es : Table) → IsLess next es
-    → IsFewer (flat_map part next) (flat_map part es)
-fewer_of part same next [] less = subst (λ t. IsFewer (flat_map part t) []) (sym less) (fewer_same [])
-fewer_of part same next (e ∷ es) less =
-    ⊎_elim (λ gone. fewer_without (part e) (flat_map part es) (flat_map part next) (fewer_of part same next es gone))
+-- it has some of what each entry has whatever its names
+pub some_of : (part : FileEntry → List Extent) → ((e : FileEntry) (names : List (List ℕ)) → part (under_names e names) ≡ part e) → (next es : Table) → IsLess next es
+    → AreSomeOf (flat_map part next) (flat_map part es)
+some_of part same next [] less = ap (flat_map part) less
+some_of part same next (e ∷ es) less =
+    ⊎_elim (λ gone. some_without (part e) (flat_map part es) (flat_map part next) (some_of part same next es gone))
     (λ kept.
-    subst (λ t. IsFewer (flat_map part t) (part e ++ flat_map part es)) (sym kept.2)
-    (subst (λ xs. IsFewer (xs ++ flat_map part kept.1) (part e ++ flat_map part es)) (sym (same e kept.0))
-    (fewer_behind (part e) (flat_map part es) (flat_map part kept.1) (fewer_of part same kept.1 es kept.3)))) less
+    subst (λ t. AreSomeOf (flat_map part t) (part e ++ flat_map part es)) (sym kept.2)
+    (subst (λ xs. AreSomeOf (xs ++ flat_map part kept.1) (part e ++ flat_map part es)) (sym (same e kept.0))
+    (some_behind (part e) (flat_map part es) (flat_map part kept.1) (some_of part same kept.1 es kept.3)))) less
 
 -- a test that each entry passes whatever its names
 pub tests_less : (t : FileEntry → Bool) → ((e : FileEntry) (names : List (List ℕ)) → t (under_names e names) ≡ t e) → (next es : Table) → IsLess next es

@@ -15,9 +15,9 @@ use Rattle.fs_model.specs.FsState.{TableRow, row_named, on_row}
 use Rattle.fs_model.specs.TreeSteps.{new_entry, new_row, with_names, drop_name, renamed_rows}
 use Rattle.crash_cover.specs.Pinned.{is_durable, has_durable_point, IsPinned}
 use Rattle.change_records.specs.Recorded.{entries}
-use Rattle.change_records.specs.PinnedRows.{StaysPinned, CreateKeepsPinned, NamesKeepPinned, RenameKeepsPinned, UnlinkKeepsPinned}
+use Rattle.change_records.specs.PinnedRows.{AreSomeOf, AddsNoExtent, CreateAddsNoExtent, NamesAddNoExtent, RenameAddsNoExtent, UnlinkAddsNoExtent}
 use Rattle.change_records.proofs.EntryLaws.{entries_dropped}
-use Rattle.change_records.proofs.FewerExtents.{IsLess, under_names, fewer_of, tests_less, facts_less, extents_of}
+use Rattle.change_records.proofs.FewerExtents.{same_extents, some_pass, some_apart, IsLess, under_names, some_of, tests_less, facts_less, extents_of}
 
 -- the lowest of three rules that is broken
 abbrev lowest : Bool → Bool → Bool → Option ℕ
@@ -41,16 +41,17 @@ all_passed true false true a b c = refl
 pinned_less : (i : Image) (next es : Table) → IsLess next es → IsPinned i es → IsPinned i next
 pinned_less i next es less pinned =
     let tests = none_broken (list_all (is_written i) (all_extents es)) (overlap (all_extents (map (recovered_entry i) es))) (list_all (has_valid_recovery_point i) es) pinned.unbroken in
-    let own = fewer_of (λ e. e.extents) (λ e names. refl) next es less in
-    let found = fewer_of (λ e. (recovered_entry i e).extents) (λ e names. refl) next es less in
+    let own : AreSomeOf (all_extents next) (all_extents es) = some_of (λ e. e.extents) (λ e names. refl) next es less in
+    let found = some_of (λ e. (recovered_entry i e).extents) (λ e names. refl) next es less in
     record {
-      extents = own.all (is_durable i) pinned.extents;
+      extents = some_pass (is_durable i) (all_extents es) (all_extents next) own pinned.extents;
       points = tests_less (has_durable_point i) (λ e names. refl) next es less pinned.points;
       sparse = facts_less SparseAlone (λ e names h. h) next es less pinned.sparse;
       unbroken =
           all_passed (list_all (is_written i) (all_extents next)) (overlap (all_extents (map (recovered_entry i) next))) (list_all (has_valid_recovery_point i) next)
-          (own.all (is_written i) tests.0)
-          (ap overlap (extents_of (recovered_entry i) next) ∙ found.apart (sym (ap overlap (extents_of (recovered_entry i) es)) ∙ tests.1))
+          (some_pass (is_written i) (all_extents es) (all_extents next) own tests.0)
+          (ap overlap (extents_of (recovered_entry i) next)
+          ∙ some_apart (flat_map (λ e. (recovered_entry i e).extents) es) (flat_map (λ e. (recovered_entry i e).extents) next) found (sym (ap overlap (extents_of (recovered_entry i) es)) ∙ tests.1))
           (tests_less (has_valid_recovery_point i) (λ e names. refl) next es less tests.2);
     }
 
@@ -65,9 +66,14 @@ taken_less names [] = refl
 taken_less names (e ∷ es) =
     taken_choice (is_named (without_names names e)) (names_left names e.names) e (take_names names es) es (taken_less names es)
 
-pub unlink_keeps_pinned : UnlinkKeepsPinned
-unlink_keeps_pinned rows name i pinned =
-    subst (IsPinned i) (sym (entries_dropped name rows)) (pinned_less i (take_names (name ∷ []) (entries rows)) (entries rows) (taken_less (name ∷ []) (entries rows)) pinned)
+pub unlink_adds_no_extent : UnlinkAddsNoExtent
+unlink_adds_no_extent rows name =
+    let es : Table = entries rows in
+    let next : Table = take_names (name ∷ []) es in
+    let less : IsLess next es = taken_less (name ∷ []) es in record {
+      extents = subst (λ t. AreSomeOf (all_extents t) (all_extents es)) (sym (entries_dropped name rows)) (some_of (λ e. e.extents) (λ e names. refl) next es less);
+      pinned = λ i pinned. subst (IsPinned i) (sym (entries_dropped name rows)) (pinned_less i next es less pinned);
+    }
 
 -- an entry with other names, if it is the one
 named_choice : (b : Bool) (names : List (List ℕ)) (q : TableRow) (rest es : Table) → IsLess rest es → IsLess ((if b then with_names names q else q).entry ∷ rest) (q.entry ∷ es)
@@ -80,22 +86,44 @@ named_less id names [] = refl
 named_less id names (q ∷ qs) =
     named_choice (q.entry.id == id) names q (entries (on_row id (with_names names) qs)) (entries qs) (named_less id names qs)
 
-pub names_keep_pinned : NamesKeepPinned
-names_keep_pinned rows id names i pinned =
-    pinned_less i (entries (on_row id (with_names names) rows)) (entries rows) (named_less id names rows) pinned
+-- an entry under other names has its extents
+named_extents : (b : Bool) (names : List (List ℕ)) (q : TableRow) → (if b then with_names names q else q).entry.extents ≡ q.entry.extents
+named_extents true names q = refl
+named_extents false names q = refl
+
+-- rows of which one gets other names record the same extents
+same_after_names : (id : ℕ) (names : List (List ℕ)) (rows : List TableRow) → all_extents (entries (on_row id (with_names names) rows)) ≡ all_extents (entries rows)
+same_after_names id names [] = refl
+same_after_names id names (q ∷ qs) =
+    ap (λ xs. xs ++ all_extents (entries (on_row id (with_names names) qs))) (named_extents (q.entry.id == id) names q)
+    ∙ ap (λ xs. q.entry.extents ++ xs) (same_after_names id names qs)
+
+-- rows before, of which one gets other names
+named_after : (rows before : List TableRow) (id : ℕ) (names : List (List ℕ)) → AddsNoExtent rows before → AddsNoExtent rows (on_row id (with_names names) before)
+named_after rows before id names adds = record {
+  extents = subst (λ xs. AreSomeOf xs (all_extents (entries rows))) (sym (same_after_names id names before)) adds.extents;
+  pinned = λ i pinned. pinned_less i (entries (on_row id (with_names names) before)) (entries before) (named_less id names before) (adds.pinned i pinned);
+}
+
+-- the same rows
+no_change : (rows : List TableRow) → AddsNoExtent rows rows
+no_change rows = record { extents = same_extents (all_extents (entries rows)); pinned = λ i pinned. pinned }
+
+pub names_add_no_extent : NamesAddNoExtent
+names_add_no_extent rows id names = named_after rows rows id names (no_change rows)
 
 -- a rename onto a name of another file, or of the file itself
-rename_choice : (b : Bool) (id : ℕ) (names : List (List ℕ)) (new : List ℕ) (rows : List TableRow) → StaysPinned rows (if b then rows else on_row id (with_names names) (drop_name new rows))
-rename_choice true id names new rows i pinned = pinned
-rename_choice false id names new rows i pinned = names_keep_pinned (drop_name new rows) id names i (unlink_keeps_pinned rows new i pinned)
+rename_choice : (b : Bool) (id : ℕ) (names : List (List ℕ)) (new : List ℕ) (rows : List TableRow) → AddsNoExtent rows (if b then rows else on_row id (with_names names) (drop_name new rows))
+rename_choice true id names new rows = no_change rows
+rename_choice false id names new rows = named_after rows (drop_name new rows) id names (unlink_adds_no_extent rows new)
 
 -- a rename, by who has the new name
-rename_cases : (there : Option TableRow) (rows : List TableRow) (r : TableRow) (old new : List ℕ) → StaysPinned rows (renamed_rows r there old new rows)
-rename_cases None rows r old new i pinned = names_keep_pinned rows r.entry.id (renamed old new r.entry.names) i pinned
-rename_cases (Some other) rows r old new i pinned = rename_choice (other.entry.id == r.entry.id) r.entry.id (renamed old new r.entry.names) new rows i pinned
+rename_cases : (there : Option TableRow) (rows : List TableRow) (r : TableRow) (old new : List ℕ) → AddsNoExtent rows (renamed_rows r there old new rows)
+rename_cases None rows r old new = names_add_no_extent rows r.entry.id (renamed old new r.entry.names)
+rename_cases (Some other) rows r old new = rename_choice (other.entry.id == r.entry.id) r.entry.id (renamed old new r.entry.names) new rows
 
-pub rename_keeps_pinned : RenameKeepsPinned
-rename_keeps_pinned rows r old new i pinned = rename_cases (row_named new rows) rows r old new i pinned
+pub rename_adds_no_extent : RenameAddsNoExtent
+rename_adds_no_extent rows r old new = rename_cases (row_named new rows) rows r old new
 
 -- ---- new files
 
@@ -132,6 +160,12 @@ pinned_new i es id name hint sparse now pinned =
           (ap (list_all (is_written i)) own ∙ tests.0) (ap overlap found ∙ tests.1) (one_more (has_valid_recovery_point i) e es refl tests.2);
     }
 
-pub create_keeps_pinned : CreateKeepsPinned
-create_keeps_pinned rows id name hint sparse now i pinned =
-    subst (IsPinned i) (sym (map-append (λ r. r.entry) rows (new_row (new_entry id name hint sparse now) ∷ []))) (pinned_new i (entries rows) id name hint sparse now pinned)
+pub create_adds_no_extent : CreateAddsNoExtent
+create_adds_no_extent rows id name hint sparse now =
+    let e : FileEntry = new_entry id name hint sparse now in
+    let same : entries (rows ++ new_row e ∷ []) ≡ entries rows ++ e ∷ [] = map-append (λ r. r.entry) rows (new_row e ∷ []) in record {
+      extents =
+          subst (λ xs. AreSomeOf xs (all_extents (entries rows))) (sym (ap all_extents same ∙ nothing_added (λ f. f.extents) e (entries rows) refl))
+          (same_extents (all_extents (entries rows)));
+      pinned = λ i pinned. subst (IsPinned i) (sym same) (pinned_new i (entries rows) id name hint sparse now pinned);
+    }

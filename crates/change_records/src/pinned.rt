@@ -1,22 +1,22 @@
-//! Laws of changes that leave each extent and each recovery point durable that was durable.
-ghost use Rattle.change_records.specs.PinnedRows.{CreateKeepsPinned, NamesKeepPinned, RenameKeepsPinned, UnlinkKeepsPinned};
+//! Laws of changes that add no extent: each extent and each recovery point is durable afterwards where it was before.
+ghost use Rattle.change_records.specs.PinnedRows.{CreateAddsNoExtent, NamesAddNoExtent, RenameAddsNoExtent, UnlinkAddsNoExtent};
 
-/// What is recorded with a new file is pinned where it was pinned without it.
-pub fn create_keeps_pinned()
-    ensures { CreateKeepsPinned }
+/// With a new file the same extents are recorded, and what was pinned is.
+pub fn create_adds_no_extent()
+    ensures { CreateAddsNoExtent }
 {}
 
-/// What is recorded with other names of a file, as after a link, is pinned still.
-pub fn names_keep_pinned()
-    ensures { NamesKeepPinned }
+/// With other names of a file, as after a link, the same extents are recorded, and what was pinned is.
+pub fn names_add_no_extent()
+    ensures { NamesAddNoExtent }
 {}
 
-/// What is recorded after a rename is pinned still.
-pub fn rename_keeps_pinned()
-    ensures { RenameKeepsPinned }
+/// After a rename some of the extents are recorded, and what was pinned is.
+pub fn rename_adds_no_extent()
+    ensures { RenameAddsNoExtent }
 {}
 
-/// What is recorded after a deletion is pinned still.
-pub fn unlink_keeps_pinned()
-    ensures { UnlinkKeepsPinned }
+/// After a deletion some of the extents are recorded, and what was pinned is.
+pub fn unlink_adds_no_extent()
+    ensures { UnlinkAddsNoExtent }
 {}
