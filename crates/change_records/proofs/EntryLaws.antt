@@ -101,6 +101,18 @@ entries_set change e (q ∷ qs) same =
     ap (λ x. x ∷ entries (on_row e.id change qs)) (set_choice (q.entry.id == e.id) change e q (λ is. same.0 (eqb-true q.entry.id e.id is)))
     ∙ ap (λ es. cond (q.entry.id == e.id) e q.entry ∷ es) (entries_set change e qs same.1)
 
+-- a row that is changed, or not
+each_choice : (P : FileEntry → Type 0) (b : Bool) (change : TableRow → TableRow) (q : TableRow) → (b ≡ true → P (change q).entry) → P q.entry → P (if b then change q else q).entry
+each_choice P true change q changed h = changed refl
+each_choice P false change q changed h = h
+
+-- what holds of each recorded entry, where one row is changed
+pub set_each : (P : FileEntry → Type 0) (id : ℕ) (change : TableRow → TableRow) (rows : List TableRow) → AllByRecursion (λ q. q.entry.id ≡ id → P (change q).entry) rows
+    → AllByRecursion P (entries rows) → AllByRecursion P (entries (on_row id change rows))
+set_each P id change [] changed each = tt
+set_each P id change (q ∷ qs) changed each =
+    (each_choice P (q.entry.id == id) change q (λ is. changed.0 (eqb-true q.entry.id id is)) each.0, set_each P id change qs changed.1 each.1)
+
 -- what holds of each recorded entry
 pub all_rows : (P : FileEntry → Type 0) (Q : TableRow → Type 0) (rows : List TableRow) → ((q : TableRow) → P q.entry → Q q) → AllByRecursion P (entries rows) → AllByRecursion Q rows
 all_rows P Q [] step h = tt

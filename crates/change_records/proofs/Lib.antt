@@ -7,3 +7,4 @@ pub mod PinnedRows
 pub mod TreesAfter
 pub mod WrittenNames
 pub mod Writable
+pub mod PinnedData

@@ -31,7 +31,7 @@ none_broken true false false h = absurd cc
 none_broken true false true h = (refl, refl, refl)
 
 -- where each test is passed, none is broken
-all_passed : (written shared valid : Bool) → written ≡ true → shared ≡ false → valid ≡ true → lowest written shared valid ≡ None
+pub all_passed : (written shared valid : Bool) → written ≡ true → shared ≡ false → valid ≡ true → lowest written shared valid ≡ None
 all_passed false shared valid a b c = absurd cc
 all_passed true true valid a b c = absurd cc
 all_passed true false false a b c = absurd cc

@@ -1,7 +1,7 @@
 -- Each record that is written is one of the grammar.
 use Rattle.std.specs.Prelude.{◌≡◌, ℕ, ◌+◌, ◌^◌, ◌<◌, Bool, true, false, List, [], ◌∷◌, ◌++◌, map, Option, Some, None, IsTrue, option_map, ◌==◌, nat_lt, if◌then◌else◌, refl}
 use Rattle.std.proofs.Common.{◌∙◌, ap, sym, subst, arith}
-use Rattle.std.proofs.lemmas.Bool.{eqb-true, eqb-false}
+use Rattle.std.proofs.lemmas.Bool.{eqb-false}
 use Rattle.std.proofs.lemmas.List.{map-append}
 use Rattle.std.specs.List.{AllByRecursion}
 use Rattle.record_model.specs.Name.{is_name}
@@ -21,7 +21,7 @@ use Rattle.fs_model.specs.FileSteps.{committed, committed_entry, with_recovery_p
 use Rattle.fs_model.proofs.TreeLaws.{at_name}
 use Rattle.change_records.specs.Recorded.{entries, AreValid}
 use Rattle.change_records.specs.Writable.{PayloadReadsAgain, AreWritable, StaysWritable, CreateStaysWritable, LinkStaysWritable, RenameStaysWritable, UnlinkStaysWritable, CommitStaysWritable, RecoveryPointStaysWritable, ReplacementStaysWritable}
-use Rattle.change_records.proofs.EntryLaws.{entries_dropped, named_row, has_the_name, unnamed, all_rows, row_entry, only_row}
+use Rattle.change_records.proofs.EntryLaws.{entries_dropped, named_row, has_the_name, unnamed, all_rows, set_each, row_entry, only_row}
 use Rattle.change_records.proofs.RenameRecords.{GetsNames, entry_after, entry_found, renamed_free, renamed_over}
 use Rattle.change_records.proofs.DataRecords.{all_from_rows}
 use Rattle.change_records.proofs.WrittenNames.{AreNames, names_of, under_others, all_push, one_more_name, name_in_place, taken_writable, among_good}
@@ -65,22 +65,10 @@ create_stays_writable rows id name hint sparse now each low good few early =
 named_writable : (name : List ℕ) (rows : List TableRow) (r : TableRow) → AreWritable rows → row_named name rows ≡ Some r → IsWritable r.entry
 named_writable name rows r each is = at_name (λ q. IsWritable q.entry) name rows r (all_rows IsWritable (λ q. IsWritable q.entry) rows (λ q w. w) each) is
 
--- a row that is changed, or not
-set_choice : (b : Bool) (change : TableRow → TableRow) (q : TableRow) → (b ≡ true → IsWritable (change q).entry) → IsWritable q.entry → IsWritable (if b then change q else q).entry
-set_choice true change q changed w = changed refl
-set_choice false change q changed w = w
-
--- rows of which one is changed
-set_writable : (id : ℕ) (change : TableRow → TableRow) (rows : List TableRow) → AllByRecursion (λ q. q.entry.id ≡ id → IsWritable (change q).entry) rows → AreWritable rows
-    → AreWritable (on_row id change rows)
-set_writable id change [] changed each = tt
-set_writable id change (q ∷ qs) changed each =
-    (set_choice (q.entry.id == id) change q (λ is. changed.0 (eqb-true q.entry.id id is)) each.0, set_writable id change qs changed.1 each.1)
-
 -- rows of which one gets other names
 names_writable : (id : ℕ) (names : List (List ℕ)) (rows : List TableRow) → AreNames names → AreWritable rows → AreWritable (on_row id (with_names names) rows)
 names_writable id names rows are each =
-    set_writable id (with_names names) rows
+    set_each IsWritable id (with_names names) rows
     (all_rows IsWritable (λ q. q.entry.id ≡ id → IsWritable (with_names names q).entry) rows (λ q w at. under_others q.entry names w are) each) each
 
 -- a name that no row has isn't the row's
@@ -187,7 +175,7 @@ commit_stays_writable rows r now valid each is early good few =
     committed_writable now r (r.entry.extents ++ r.unrecorded) w early few (all_more IsExtent r.entry.extents r.unrecorded w.extents good) in record {
       spelled = committed_writable now r r.unrecorded w early few good;
       again =
-          set_writable r.entry.id (committed now) rows
+          set_each IsWritable r.entry.id (committed now) rows
           (all_from_rows (λ q. q.entry.id ≡ r.entry.id → q ≡ r) (λ q. q.entry.id ≡ r.entry.id → IsWritable (committed now q).entry) rows
           (λ q only at. subst (λ p. IsWritable (committed now p).entry) (sym (only at)) after) (only_row 0 r.entry.id rows r valid.table.ids is)) each;
     }
@@ -210,7 +198,7 @@ pub recovery_point_stays_writable : RecoveryPointStaysWritable
 recovery_point_stays_writable rows r start each is low = record {
   spelled = without_extents (with_recovery_point start r).entry (pointed start r.entry low (found_writable rows r each is));
   again =
-      set_writable r.entry.id (with_recovery_point start) rows
+      set_each IsWritable r.entry.id (with_recovery_point start) rows
       (all_rows IsWritable (λ q. q.entry.id ≡ r.entry.id → IsWritable (with_recovery_point start q).entry) rows (λ q w at. pointed start q.entry low w) each) each;
 }
 
@@ -242,6 +230,6 @@ pub replacement_stays_writable : ReplacementStaysWritable
 replacement_stays_writable rows r moves each is low = record {
   spelled = moved_writable moves r.entry low (found_writable rows r each is);
   again =
-      set_writable r.entry.id (moved moves) rows
+      set_each IsWritable r.entry.id (moved moves) rows
       (all_rows IsWritable (λ q. q.entry.id ≡ r.entry.id → IsWritable (moved moves q).entry) rows (λ q w at. moved_writable moves q.entry low w) each) each;
 }

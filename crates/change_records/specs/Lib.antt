@@ -4,3 +4,4 @@ pub mod DataRecords
 pub mod PinnedRows
 pub mod TreesAfter
 pub mod Writable
+pub mod PinnedData

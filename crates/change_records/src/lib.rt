@@ -6,4 +6,5 @@ pub mod data;
 pub mod grammar;
 pub mod names;
 pub mod pinned;
+pub mod pinned_data;
 pub mod trees;
