@@ -1,0 +1,3 @@
+pub mod DataZones
+pub mod RollLaws
+pub mod SettledTables

@@ -1,0 +1,2 @@
+pub mod RollRest
+pub mod Settled
