@@ -1,3 +1,6 @@
 pub mod DataZones
 pub mod RollLaws
 pub mod SettledTables
+pub mod AddingLaws
+pub mod ResetLaws
+pub mod AppendedImages

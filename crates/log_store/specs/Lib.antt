@@ -1,2 +1,6 @@
 pub mod RollRest
 pub mod Settled
+pub mod Spelled
+pub mod Room
+pub mod Adding
+pub mod Resetting
