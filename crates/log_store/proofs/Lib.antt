@@ -4,3 +4,4 @@ pub mod SettledTables
 pub mod AddingLaws
 pub mod ResetLaws
 pub mod AppendedImages
+pub mod RollCallLaws

@@ -59,7 +59,7 @@ rolled_zone i zone n blocks = first zone ∙ zone_behind (map zone_synced i.zone
     first (suc (suc (suc z))) = refl
 
 -- the data zones have the same blocks after a roll
-rolled_data : (i : Image) (zone : ℕ) (blocks : List (List ℕ)) → IsValidImage i → HaveSameData (λ _. false) i (rolled_image i zone blocks)
+pub rolled_data : (i : Image) (zone : ℕ) (blocks : List (List ℕ)) → IsValidImage i → HaveSameData (λ _. false) i (rolled_image i zone blocks)
 rolled_data i zone blocks valid = record {
   geometry = refl;
   blocks = λ n data_zone other. ap (λ z. z.blocks) (at n data_zone);

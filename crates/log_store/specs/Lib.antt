@@ -4,3 +4,4 @@ pub mod Spelled
 pub mod Room
 pub mod Adding
 pub mod Resetting
+pub mod RollCalls

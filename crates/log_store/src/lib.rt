@@ -5,11 +5,14 @@ mod adding;
 mod calls;
 mod resetting;
 pub mod rest;
+mod rolling;
 mod room;
 pub mod settling;
 mod spelled;
 
 pub use adding::add_record;
+pub use log_roll::{RollBuffer, RollError};
 pub use resetting::reset_data_zone;
+pub use rolling::{roll_and_add, roll_log};
 pub use room::must_roll;
 pub use spelled::SpelledRecord;
