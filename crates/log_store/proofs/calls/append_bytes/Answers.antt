@@ -1,0 +1,18 @@
+use Rattle.std.proofs.Common.{inl}
+use Rattle.zone_image.specs.Changes.{blocks_in}
+use Rattle.log_roll.proofs.DeviceCalls.{whole_append}
+use Rattle.log_store.proofs.calls.append_bytes.Goals as goal
+
+pub returns-in-Ok-clause-device : goal.returns-in-Ok-clause-device
+returns-in-Ok-clause-device g c =
+    let D = g.D.ZonedDevice in
+    let dev = c.args.dev.now in
+    let e = c.in-Ok.ensures in
+    record {
+      still_known = c.append.ensures.still_known;
+      same_geometry = c.append.ensures.same_geometry;
+      passes = c.append.ensures.passes;
+      stands = λ told j crash. whole_append (D.image dev) (D.image c.append.new.self) j c.args.zone (blocks_in (D.geometry dev) c.args.bytes.now) (e.new_image told) crash;
+      cause = record { never_falls = e.cause.never_falls; rose = λ failed. e.cause.rose failed };
+      changes = inl e.changes;
+    }

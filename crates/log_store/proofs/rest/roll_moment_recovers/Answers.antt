@@ -1,0 +1,5 @@
+use Rattle.log_store.proofs.RollLaws.{roll_moment_recovers}
+use Rattle.log_store.proofs.rest.roll_moment_recovers.Goals as goal
+
+pub returns : goal.returns
+returns c = roll_moment_recovers
