@@ -11,12 +11,13 @@ use Rattle.record_model.specs.declared.types.Record.TheVariants.{Snapshot}
 use Rattle.superblock_core.specs.Superblock.{superblock_bytes, superblock_of, fits}
 use Rattle.superblock_core.specs.declared.superblock.Superblock.{Superblock}
 use Rattle.log_model.specs.Format.{formatted_blocks, formatted_image}
+use Rattle.log_model.specs.ScanLaws.{IsRecordOf}
 use Rattle.log_roll.specs.FormatLeaves.{HasNewLog}
-use Rattle.log_roll.proofs.LoneLogs.{IsLone, lone_log}
+use Rattle.log_roll.proofs.LoneLogs.{IsLone, IsSuperblock, lone_log}
 use Rattle.log_roll.proofs.RollSelects.{head_fits}
 
 -- all zones are empty
-none_in : (n m : ℕ) → zone_in (replicate n no_zone) m ≡ no_zone
+pub none_in : (n m : ℕ) → zone_in (replicate n no_zone) m ≡ no_zone
 none_in zero m = refl
 none_in (suc n) zero = refl
 none_in (suc n) (suc m) = none_in n m
@@ -43,11 +44,24 @@ short_snapshot : length (payload_of (Snapshot [])) ≡ 5
 unfolding payload_of varint
 short_snapshot = refl
 
+-- what makes the first snapshot one that is selected
+pub record EmptySnapshot (block : ℕ) : Type 0 where
+  pub fits : IsRecordOf block (payload_of (Snapshot []))
+  pub reads : record_of (payload_of (Snapshot [])) ≡ Ok (Snapshot [])
+
+pub empty_snapshot_is : (g : Geometry) → IsTrue (is_valid g) → EmptySnapshot g.block
+empty_snapshot_is g valid = record { fits = (head_fits g valid, omega (arith, short_snapshot), omega (arith, short_snapshot)); reads = empty_reads }
+
+-- the first superblock is one of this device
+pub first_superblock_is : (g : Geometry) (s : Superblock) → IsTrue (is_valid g) → superblock_of (superblock_bytes s) ≡ Ok s → length (superblock_bytes s) ≡ 512 → IsTrue (fits s g)
+    → IsSuperblock g (superblock_bytes s) s
+first_superblock_is g s valid reads size device =
+    record { fits = (head_fits g valid, omega (arith, size), omega (arith, size)); size = size; reads = reads; device = device }
+
 pub formatted_log : (g : Geometry) (s : Superblock) → IsTrue (is_valid g) → superblock_of (superblock_bytes s) ≡ Ok s → length (superblock_bytes s) ≡ 512 → IsTrue (fits s g)
     → HasNewLog 0 s (payload_of (Snapshot [])) (formatted_image g s)
 unfolding formatted_image
 formatted_log g s valid reads size device = record {
-  selected = lone_log 0 (formatted_image g s) (superblock_bytes s) (payload_of (Snapshot [])) s []
-      (record { fits = (head_fits g valid, omega (arith, size), omega (arith, size)); size = size; reads = reads; device = device })
-      (head_fits g valid, omega (arith, short_snapshot), omega (arith, short_snapshot)) empty_reads (formatted_lone g s);
+  selected = lone_log 0 (formatted_image g s) (superblock_bytes s) (payload_of (Snapshot [])) s [] (first_superblock_is g s valid reads size device) (empty_snapshot_is g valid).fits
+      empty_reads (formatted_lone g s);
 }

@@ -19,3 +19,8 @@ pub mod RollBase
 pub mod RollCrash
 pub mod RollMoments
 pub mod FormatSelects
+pub mod PassedOver
+pub mod SortedResets
+pub mod FormatResets
+pub mod FormatCrash
+pub mod FormatMoments

@@ -69,7 +69,7 @@ pub record IsLone (zone : ℕ) (blocks : List (List ℕ)) (j : Image) : Type 0 w
   pub others : (m : ℕ) → m < 3 → m ≢ zone → (zone_at j m).blocks ≡ []
 
 -- an empty zone has no records
-empty_scan : (block : ℕ) (blocks : List (List ℕ)) → blocks ≡ [] → scan block blocks ≡ no_records
+pub empty_scan : (block : ℕ) (blocks : List (List ℕ)) → blocks ≡ [] → scan block blocks ≡ no_records
 unfolding scan scan_within
 empty_scan block blocks none = ap (scan block) none
 

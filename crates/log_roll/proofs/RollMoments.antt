@@ -25,7 +25,7 @@ one_end : (g : Geometry) → IsTrue (is_valid g) → blocks_of g.block 4 ≡ 1
 one_end g valid = grind (arith, common_steps)
 
 -- a device has data zones
-three_zones : (g : Geometry) → IsTrue (is_valid g) → 2 < g.zones
+pub three_zones : (g : Geometry) → IsTrue (is_valid g) → 2 < g.zones
 three_zones g valid = grind (arith, common_steps)
 
 -- what the steps of a roll pass

@@ -72,7 +72,7 @@ log_fits g zone c [] (Bad block len stored computed) log h = cc
 log_fits g zone c (p ∷ ps) end log h = sized_fits (length p.1 == 512) g zone c p.1 (superblock_of p.1) log h
 
 -- one log more, or none
-each_with : (P : LogAt → Type 0) (o : Option LogAt) (logs : List LogAt) → ((log : LogAt) → o ≡ Some log → P log) → Each P logs → Each P (add_log o logs)
+pub each_with : (P : LogAt → Type 0) (o : Option LogAt) (logs : List LogAt) → ((log : LogAt) → o ≡ Some log → P log) → Each P logs → Each P (add_log o logs)
 each_with P None logs h g = g
 each_with P (Some log) logs h g = (h log refl, g)
 

@@ -12,6 +12,7 @@ use Rattle.log_model.specs.Format.{reset_order}
 use Rattle.log_roll.specs.DeviceSteps.{Then}
 use Rattle.log_roll.specs.Resets.{CrashesMetadata, PassedByThreeResets, emptied_three}
 use Rattle.log_roll.specs.NewLog.{PassedByNewLog, begun}
+use Rattle.log_roll.specs.FormatLeaves.{FormatLeaves, HasLogs}
 
 -- a sync, and the resets of the metadata zones
 abbrev pub PassedByFirstResets : ℕ → ℕ → ℕ → Image → Image → Type 0
@@ -39,6 +40,7 @@ pub record PassedInOrder (g : Geometry) (s : Superblock) (i j : Image) : Type 0 
   pub order : (first ∷ second ∷ third ∷ []) ≡ reset_order i
   pub passed : PassedByFormat g first second third (record_blocks g.block (superblock_bytes s)) (record_blocks g.block (payload_of (Snapshot []))) i j
 
--- what a crash leaves at some moment of formatting
-abbrev pub LeftByFormat : Geometry → Superblock → Image → Image → Type 0
-LeftByFormat g s i j = IsCrash i j ⊎ PassedInOrder g s i j
+-- What a crash leaves at some moment of formatting; of an image whose every crash has a log that counts, it is one of three cases.
+pub record LeftByFormat (g : Geometry) (s : Superblock) (i j : Image) : Type 0 where
+  pub moment : IsCrash i j ⊎ PassedInOrder g s i j
+  pub cases : HasLogs i → FormatLeaves s i j

@@ -9,8 +9,8 @@ pub mod Resets
 pub mod NewLog
 pub mod FormatOrder
 pub mod FirstPayload
+pub mod FormatLeaves
 pub mod Formatting
 pub mod RollMemory
 pub mod Rolling
-pub mod FormatLeaves
 pub mod RollLeaves

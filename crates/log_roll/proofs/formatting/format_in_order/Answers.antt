@@ -1,13 +1,13 @@
-use Rattle.std.proofs.Common.{ℕ, List, length, ap, inl, inr, ◌<◌, [], ◌∷◌, sym, subst, refl, ◌∙◌, IsTrue, arith}
+use Rattle.std.proofs.Common.{ℕ, List, length, ap, ◌<◌, [], ◌∷◌, sym, subst, refl, ◌∙◌, IsTrue, arith}
 use Rattle.zone_image.specs.declared.Geometry.{Geometry}
 use Rattle.zone_image.specs.Image.{is_valid}
 use Rattle.record_model.specs.Encoding.{payload_of}
 use Rattle.record_model.specs.declared.types.Record.TheVariants.{Snapshot}
-use Rattle.log_model.specs.LogScan.{record_blocks}
 use Rattle.superblock_core.specs.Superblock.{superblock_of}
 use Rattle.log_roll.specs.FormatLeaves.{HasNewLog}
 use Rattle.log_roll.proofs.FormatSelects.{formatted_log}
-use Rattle.log_roll.specs.Formatting.{LeftByFormat, PassedByFormat}
+use Rattle.log_roll.specs.Formatting.{LeftByFormat}
+use Rattle.log_roll.proofs.FormatMoments.{format_passed, unformatted}
 use Rattle.log_roll.proofs.DeviceCalls.{done_as, nothing_done}
 use Rattle.log_roll.proofs.Formatted.{formatted_is, formatted_infos, empty_snapshot}
 use Rattle.log_roll.proofs.formatting.format_in_order.Goals as goal
@@ -51,14 +51,9 @@ returns-in-Ok-write_format-clause-device g c =
     let shape : Geometry = c.args.geometry.now in
     let o = c.args.order in
     done_as g.met.D.ZonedDevice.moments _ (LeftByFormat shape c.args.superblock.now (D.image dev)) c.in-Ok-write_format.ensures.device (λ failed. cc) (λ none. cc)
-    (λ j told passed. inr (record {
-      first = o.first;
-      second = o.second;
-      third = o.third;
-      order = c.requires.ordered told;
-      passed = subst (λ bs. PassedByFormat shape o.first o.second o.third bs (record_blocks shape.block (payload_of (Snapshot []))) (D.image dev) j) (ap (record_blocks shape.block) c.encode.ensures.bytes)
-          (subst (λ bs. PassedByFormat shape o.first o.second o.third (record_blocks shape.block c.encode.new.out) bs (D.image dev) j) (ap (record_blocks shape.block) empty_snapshot) passed);
-    }))
+    (λ j told passed. format_passed shape (D.geometry dev) (D.infos dev) (D.image dev) c.args.superblock.now c.encode.new.out (1 ∷ 0 ∷ 0 ∷ 0 ∷ 0 ∷ []) o.first o.second o.third c.requires.same_geometry
+    (g.met.D.ZonedDevice.possible dev c.requires.is_known) (g.met.D.ZonedDevice.told dev told c.requires.is_known) c.requires.all (c.requires.ordered told)
+    (record { bytes = c.encode.ensures.bytes; reads = c.encode.ensures.reads_back; size = c.encode.array_long; device = c.requires.fits }) empty_snapshot j passed)
 
 pub returns-clause-device : goal.returns-clause-device
 returns-clause-device g c =
@@ -67,19 +62,14 @@ returns-clause-device g c =
     let shape : Geometry = c.args.geometry.now in
     let o = c.args.order in
     done_as g.met.D.ZonedDevice.moments _ (LeftByFormat shape c.args.superblock.now (D.image dev)) c.in-Err-write_format.ensures.device (λ failed. refl) (λ failed. refl)
-    (λ j told passed. inr (record {
-      first = o.first;
-      second = o.second;
-      third = o.third;
-      order = c.requires.ordered told;
-      passed = subst (λ bs. PassedByFormat shape o.first o.second o.third bs (record_blocks shape.block (payload_of (Snapshot []))) (D.image dev) j) (ap (record_blocks shape.block) c.encode.ensures.bytes)
-          (subst (λ bs. PassedByFormat shape o.first o.second o.third (record_blocks shape.block c.encode.new.out) bs (D.image dev) j) (ap (record_blocks shape.block) empty_snapshot) passed);
-    }))
+    (λ j told passed. format_passed shape (D.geometry dev) (D.infos dev) (D.image dev) c.args.superblock.now c.encode.new.out (1 ∷ 0 ∷ 0 ∷ 0 ∷ 0 ∷ []) o.first o.second o.third c.requires.same_geometry
+    (g.met.D.ZonedDevice.possible dev c.requires.is_known) (g.met.D.ZonedDevice.told dev told c.requires.is_known) c.requires.all (c.requires.ordered told)
+    (record { bytes = c.encode.ensures.bytes; reads = c.encode.ensures.reads_back; size = c.encode.array_long; device = c.requires.fits }) empty_snapshot j passed)
 
 pub returns-in-Err-clause-device : goal.returns-in-Err-clause-device
 returns-in-Err-clause-device g c =
     let D = g.D.ZonedDevice in
     let dev = c.args.dev.now in
     done_as g.met.D.ZonedDevice.moments _ (LeftByFormat c.args.geometry.now c.args.superblock.now (D.image dev))
-    (nothing_done g.met.D.ZonedDevice.moments dev (LeftByFormat c.args.geometry.now c.args.superblock.now (D.image dev)) c.requires.is_known (λ j crash. inl crash))
+    (nothing_done g.met.D.ZonedDevice.moments dev (LeftByFormat c.args.geometry.now c.args.superblock.now (D.image dev)) c.requires.is_known (λ j crash. unformatted c.args.geometry.now c.args.superblock.now (D.image dev) j crash))
     (λ none. absurd none) (λ none. cc) (λ j told p. p)
