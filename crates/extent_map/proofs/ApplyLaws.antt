@@ -80,11 +80,11 @@ sorted_more i files e rows lt is h =
 
 -- an entry that a record may have, of the right size, may be a row
 pub sound_entry : (e : FileEntry) → IsWritable e → has_right_size e ≡ true → IsSound e
-sound_entry e writable right = record { id = writable.id; size = eqb-true e.size (size_of e.extents) right; named = writable.named }
+sound_entry e writable right = record { id = writable.id; size = eqb-true e.size (size_of e.extents) right; named = writable.named; apart = writable.apart }
 
 -- so may one that is grown
 pub sound_grown : (f e : FileEntry) → IsWritable e → has_right_size (grown (Some f) e) ≡ true → IsSound (grown (Some f) e)
-sound_grown f e writable right = record { id = writable.id; size = eqb-true e.size (size_of (grown (Some f) e).extents) right; named = writable.named }
+sound_grown f e writable right = record { id = writable.id; size = eqb-true e.size (size_of (grown (Some f) e).extents) right; named = writable.named; apart = writable.apart }
 
 -- so may all entries of a snapshot
 pub sound_entries : (files : Table) → AllByRecursion IsWritable files → list_all has_right_size files ≡ true → AllByRecursion IsSound files

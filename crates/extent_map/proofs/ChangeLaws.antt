@@ -108,8 +108,12 @@ kept_state id f rows greatest keeps state =
       limit = state.limit;
     }
 
--- the row at the place of an id, changed by this
+-- the row at the place of an id, changed by this, where the ids rise
+pub changed_in : (id : ℕ) (f : TableRow → TableRow) (rows : List TableRow) (k : ℕ) (row new : TableRow) → IdsRise 0 (recorded_of rows) → k < length rows
+    → row ≡ get_or rows k row → (get_or rows k row).entry.id ≡ id → new ≡ f row → set rows k new ≡ on_row id f rows
+changed_in id f rows k row new rise lt is same new_is = ap (set rows k) (new_is ∙ ap f is) ∙ set_is_change 0 id f rows k row rise lt same
+
+-- the same in a table
 pub changed_at : (id : ℕ) (f : TableRow → TableRow) (rows : List TableRow) (greatest k : ℕ) (row new : TableRow) → IsTableState rows greatest → k < length rows
     → row ≡ get_or rows k row → (get_or rows k row).entry.id ≡ id → new ≡ f row → set rows k new ≡ on_row id f rows
-changed_at id f rows greatest k row new state lt is same new_is =
-    ap (set rows k) (new_is ∙ ap f is) ∙ set_is_change 0 id f rows k row state.table.ids lt same
+changed_at id f rows greatest k row new state lt is same new_is = changed_in id f rows k row new state.table.ids lt is same new_is

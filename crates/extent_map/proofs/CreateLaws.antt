@@ -24,7 +24,7 @@ unused_any (n ∷ ns) new h =
     or_from (bytes_eq new n || false) (list_any (is_among (new ∷ [])) ns) (or_from (bytes_eq new n) false (bytes_eq_sym new n ∙ parts.0) refl) (unused_any ns new parts.1)
 
 -- no file has a name that none is found by
-unused_everywhere : (name : List ℕ) (rows : List TableRow) → is_some (row_named name rows) ≡ false → AllByRecursion (λ e. is_among e.names name ≡ false) (recorded_of rows)
+pub unused_everywhere : (name : List ℕ) (rows : List TableRow) → is_some (row_named name rows) ≡ false → AllByRecursion (λ e. is_among e.names name ≡ false) (recorded_of rows)
 unused_everywhere name [] h = tt
 unused_everywhere name (r ∷ rs) h = choice (is_among r.entry.names name) refl (unused_everywhere name rs) h
   where

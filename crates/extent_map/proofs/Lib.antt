@@ -2,6 +2,10 @@ pub mod ChangeLaws
 pub mod CreateLaws
 pub mod LengthLaws
 pub mod ApplyLaws
+pub mod LinkLaws
 pub mod LookupLaws
+pub mod MoveLaws
+pub mod NameLaws
 pub mod NoteLaws
 pub mod PlaceLaws
+pub mod TakenLaws

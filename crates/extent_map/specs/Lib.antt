@@ -2,6 +2,7 @@ pub mod Applying
 pub mod Changes
 pub mod Creating
 pub mod Lookups
+pub mod Naming
 pub mod Records
 pub mod Sound
 pub mod Spare

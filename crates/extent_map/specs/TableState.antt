@@ -6,7 +6,7 @@ use Rattle.fs_model.specs.FsState.{TableRow}
 use Rattle.extent_map.specs.Records.{recorded_of}
 
 -- the files by rising id, the greatest id that was given since the mount, for each file the number of extents for which room
--- is made, the number of new files for which room is made, and the id for which room was made last
+-- is made, the number of changes of names for which room is made, and the id for which room was made last
 pub record TableState : Type 0 where
   pub rows : List TableRow
   pub greatest : ℕ

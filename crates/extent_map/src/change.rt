@@ -1,24 +1,25 @@
 //! Changes of one file of the table.
 
-ghost use Rattle.std.specs.Prelude.{◌≡◌, ◌+◌, ◌^◌, ◌<◌, ◌≤◌, length, slice_index_or, IfSome, IfNone, None, IsSome, Some, OnOk, IfOk};
+ghost use Rattle.std.specs.Prelude.{◌≡◌, ◌+◌, ◌^◌, ◌<◌, ◌≤◌, length, slice_index_or, IfSome, IfNone, None, IsSome, Some, OnOk, IfOk, vec_capacity};
 ghost use Rattle.std.specs.Option.{ForSome};
 ghost use Rattle.log_model.specs.FileTable.{size_of};
-ghost use Rattle.fs_model.specs.FileSteps.{note, shown_row};
+ghost use Rattle.fs_model.specs.FileSteps.{moved, note, shown_row};
 ghost use Rattle.extent_map.specs.Lookups.{extents_of};
 ghost use Rattle.extent_map.specs.Spare.{extents_more, spare_at};
 ghost use Rattle.fs_model.specs.FsState.{TableRow, on_row, row_of};
 ghost use Rattle.extent_map.specs.Changes.{recorded_row};
 
 use crate::lookups::row_of;
-use crate::room::{Room, room_for_one};
+use crate::room::{Room, room_for_name, room_for_one};
 use crate::row::Row;
 use crate::table::FileTable;
-use record_model::Extent;
+use fs_model::Move;
+use record_model::{Extent, Name};
 use std::alloc::{AllocError, Global};
 
 impl FileTable {
-    /// Makes room for one more file, and for one more extent of the file of this id. After want of
-    /// memory the files are as before.
+    /// Makes room for one more file, and for one more name and one more extent of the file of this id.
+    /// After want of memory the files are as before.
     pub fn reserve(&mut self, id: u64) -> Result<(), AllocError>
         ensures rows { self.new.rows ≡ self.old.rows }
         ensures greatest { self.new.greatest ≡ self.old.greatest }
@@ -31,6 +32,7 @@ impl FileTable {
         self.rows.reserve(1)?;
         self.first_names.clear();
         self.first_names.reserve(1)?;
+        self.more_names = names_room(alloc, &self.rows, id)?;
         self.room = Some(room);
         self.reserved = Some(id);
         Ok(())
@@ -62,6 +64,18 @@ impl FileTable {
         row.show(time);
     }
 
+    /// Gives each recorded extent of a file that starts where a move begins the start to which the first
+    /// such move leads. It takes no memory.
+    pub fn replace(&mut self, id: u64, moves: &[Move])
+        requires { IsSome (row_of id self.old.rows) }
+        ensures rows { self.new.rows ≡ on_row id (moved moves.now) self.old.rows }
+        ensures greatest { self.new.greatest ≡ self.old.greatest }
+    {
+        let at = index_of(&self.rows, id).unwrap();
+        let row = &mut self.rows[at];
+        row.move_extents(moves);
+    }
+
     /// Takes all extents of a file as recorded, and all its bytes as shown; `active` is where its next
     /// frames begin, or `NO_ACTIVE`.
     pub fn recorded(&mut self, id: u64, active: u64)
@@ -83,6 +97,16 @@ fn room_in(alloc: Global, rows: &[Row], id: u64) -> Result<Room, AllocError>
     match row_of(rows, id) {
         None => room_for_one(alloc, id, &[], &[]),
         Some(row) => room_for_one(alloc, id, row.entry().extents.items(), row.unrecorded()),
+    }
+}
+
+/// Room for the names of a file and one more, and none where the file isn't there.
+fn names_room(alloc: Global, rows: &[Row], id: u64) -> Result<Vec<Name>, AllocError>
+    ensures { IfOk result (λ room. ForSome (row_of id rows.now) (λ r. length r.entry.names < vec_capacity room)) }
+{
+    match row_of(rows, id) {
+        None => Ok(Vec::new(alloc)),
+        Some(row) => room_for_name(alloc, row.entry().names.items()),
     }
 }
 

@@ -38,3 +38,12 @@ pub enum TableError {
     #[error("file ids at their end")]
     IdsEnd,
 }
+
+/// What a rename did.
+#[derive(Clone, Copy, Debug, PartialEq, Eq)]
+pub enum Moved {
+    /// Both names are of one file, and nothing changed.
+    Same,
+    /// The file of this id has the new name in the place of the old one.
+    Done { id: u64 },
+}

@@ -8,8 +8,11 @@ mod create;
 mod error;
 mod extents;
 mod lengths;
+mod links;
 mod locate;
 mod lookups;
+mod moves;
+mod name_lists;
 mod names;
 mod place;
 mod records;
@@ -18,8 +21,10 @@ mod row;
 mod sizes;
 mod snapshot;
 mod table;
+mod taken;
 
-pub use error::{ApplyError, TableError};
+pub use error::{ApplyError, Moved, TableError};
+pub use fs_model::Move;
 pub use record_model::{Extent, Extents, FileEntry, Files, Name, Names, Record};
 pub use table::FileTable;
 

@@ -1,6 +1,7 @@
 //! Names that are left of some, and files that are left.
 
 ghost use Rattle.std.specs.Prelude.{◌≡◌, ◌++◌, [], ◌∷◌, ◌<◌, OnOk, IfOk, length};
+ghost use Rattle.record_model.specs.Grammar.{AreApart};
 ghost use Rattle.log_model.specs.FileTable.{names_left, take_names};
 ghost use Rattle.fs_model.specs.FsState.{mounted_row};
 ghost use Rattle.extent_map.specs.Applying.{others_of, rows_of};
@@ -64,6 +65,7 @@ fn push_left(
 fn row_with(alloc: Global, entry: &FileEntry, names: Vec<Name>) -> Result<Row, AllocError>
     requires sound { IsSound entry.now }
     requires named { 0 < length names.items }
+    requires apart { AreApart names.items }
     ensures { IfOk result (λ row. row ≡ mounted_row (record (entry.now) { names = names.items })) }
 {
     let entry = FileEntry {

@@ -25,6 +25,7 @@ impl FileTable {
             reserved: None,
             room: None,
             first_names: Vec::new(alloc),
+            more_names: Vec::new(alloc),
         })
     }
 

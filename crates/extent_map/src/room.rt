@@ -2,7 +2,7 @@
 
 ghost use Rattle.std.specs.Prelude.{◌≡◌, ◌+◌, ◌<◌, ◌++◌, [], ◌∷◌, length, vec_capacity, IfOk};
 
-use record_model::Extent;
+use record_model::{Extent, Name};
 use std::alloc::{AllocError, Global};
 
 /// Room for one more extent of a file.
@@ -41,6 +41,16 @@ fn with_one_more(alloc: Global, len: usize) -> Result<Vec<Extent>, AllocError>
     ensures { IfOk result (λ room. len < vec_capacity room) }
 {
     match len.checked_add(1) {
+        None => Err(AllocError),
+        Some(len) => Vec::with_capacity(alloc, len),
+    }
+}
+
+/// Room for these names and one more.
+pub(crate) fn room_for_name(alloc: Global, names: &[Name]) -> Result<Vec<Name>, AllocError>
+    ensures { IfOk result (λ room. length names.now < vec_capacity room) }
+{
+    match names.len().checked_add(1) {
         None => Err(AllocError),
         Some(len) => Vec::with_capacity(alloc, len),
     }

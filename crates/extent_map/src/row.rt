@@ -1,17 +1,23 @@
 //! One file of the table.
 
-ghost use Rattle.std.specs.Prelude.{◌≡◌, ◌↔◌, ◌+◌, ◌^◌, ◌<◌, length, vec_capacity, IsTrue, IfOk};
-ghost use Rattle.log_model.specs.FileTable.{is_among, size_of};
+ghost use Rattle.std.specs.Prelude.{◌≡◌, ◌↔◌, ◌+◌, ◌^◌, ◌<◌, ◌++◌, [], ◌∷◌, false, length, vec_capacity, IsTrue, IfOk};
+ghost use Rattle.log_model.specs.FileTable.{is_among, is_named, size_of};
+ghost use Rattle.log_model.specs.FileTree.{renamed};
 ghost use Rattle.fs_model.specs.FsState.{mounted_row};
-ghost use Rattle.fs_model.specs.FileSteps.{note, shown_row};
+ghost use Rattle.fs_model.specs.FileSteps.{moved, note, shown_row};
+ghost use Rattle.fs_model.specs.TreeSteps.{with_names};
 ghost use Rattle.extent_map.specs.Lookups.{extents_of};
 ghost use Rattle.extent_map.specs.Changes.{recorded_row, joined_row};
+ghost use Rattle.extent_map.specs.Naming.{without_names};
 ghost use Rattle.extent_map.specs.Sound.{IsSound};
 
 use crate::copies::{copy_entry, size_of};
 use crate::extents::{add_extent, joined, room_for};
+use crate::moves::moved_extents;
+use crate::name_lists::{keeps_name, names_left, renamed, with_name};
 use crate::room::Room;
-use record_model::{Extent, FileEntry, Name};
+use fs_model::Move;
+use record_model::{Extent, Extents, FileEntry, Name, Names};
 use std::alloc::{AllocError, Global};
 use std::marker::Model;
 use std::mem;
@@ -151,6 +157,52 @@ impl Row {
         self.entry.extents = joined(room, self.entry.extents.items(), &self.unrecorded);
         self.unrecorded.clear();
         self.shown = self.entry.size;
+    }
+
+    /// Gives the file one more name, behind the others, in room that was made for it.
+    pub(crate) fn add_name(&mut self, new: Name, room: Vec<Name>)
+        requires room { length self.old.entry.names < vec_capacity room }
+        requires unused { is_among self.old.entry.names new ≡ false }
+        ensures { self.new ≡ with_names (self.old.entry.names ++ new ∷ []) self.old }
+    {
+        let alloc = *self.unrecorded.allocator();
+        let names = mem::replace(&mut self.entry.names, Names::from_vec(Vec::new(alloc)));
+        self.entry.names = with_name(room, names, new);
+    }
+
+    /// Puts a name in the place of another one.
+    pub(crate) fn rename(&mut self, old: &Name, new: Name)
+        requires { is_among self.old.entry.names new ≡ false }
+        ensures { self.new ≡ with_names (renamed old.now new self.old.entry.names) self.old }
+    {
+        let alloc = *self.unrecorded.allocator();
+        let names = mem::replace(&mut self.entry.names, Names::from_vec(Vec::new(alloc)));
+        self.entry.names = renamed(names, old, new);
+    }
+
+    /// Takes these names from the file, and tells whether one is left. Where none is, the row is as
+    /// before.
+    pub(crate) fn lose_names(&mut self, taken: &[Name]) -> bool
+        ensures left { result ≡ is_named (without_names taken.now self.old).entry }
+        ensures row { IsTrue result → self.new ≡ without_names taken.now self.old }
+        ensures same { result ≡ false → self.new ≡ self.old }
+    {
+        if !keeps_name(self.entry.names.items(), taken) {
+            return false;
+        }
+        let alloc = *self.unrecorded.allocator();
+        let names = mem::replace(&mut self.entry.names, Names::from_vec(Vec::new(alloc)));
+        self.entry.names = names_left(names, taken);
+        true
+    }
+
+    /// Moves the recorded extents that start where one of these moves begins.
+    pub(crate) fn move_extents(&mut self, moves: &[Move])
+        ensures { self.new ≡ moved moves.now self.old }
+    {
+        let alloc = *self.unrecorded.allocator();
+        let extents = mem::replace(&mut self.entry.extents, Extents::from_vec(Vec::new(alloc)));
+        self.entry.extents = moved_extents(extents, moves);
     }
 
     /// Whether the byte of an offset is shown to readers, as only bytes of the file are.

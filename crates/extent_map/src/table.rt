@@ -20,6 +20,8 @@ pub struct FileTable {
     pub(crate) room: Option<Room>,
     /// Room for the name of a new file.
     pub(crate) first_names: Vec<Name>,
+    /// Room for all names of the file that `reserve` was last given, and one more.
+    pub(crate) more_names: Vec<Name>,
 }
 
 impl Model for FileTable {
@@ -28,13 +30,15 @@ impl Model for FileTable {
     ghost Value = { TableState };
 
     ghost use Rattle.std.specs.Prelude.{◌-◌, length, min, vec_capacity};
+    ghost use Rattle.extent_map.specs.Naming.{names_within, reserved_row};
     ghost use Rattle.extent_map.specs.Spare.{spare_of};
 
     ghost view = { λ t. record {
       rows = t.rows.items;
       greatest = t.greatest;
       spare = spare_of t.rows.items t.room;
-      names_spare = min (vec_capacity t.rows - length t.rows.items) (vec_capacity t.first_names);
+      names_spare = names_within (vec_capacity t.more_names) (reserved_row t.reserved t.rows.items)
+          (min (vec_capacity t.rows - length t.rows.items) (vec_capacity t.first_names));
       reserved = t.reserved;
     } };
 
@@ -53,6 +57,7 @@ impl FileTable {
             reserved: None,
             room: None,
             first_names: Vec::new(alloc),
+            more_names: Vec::new(alloc),
         }
     }
 }

@@ -15,7 +15,7 @@ invariant_of-self c =
     let nothing = ap (λ (xs : List Extent). length xs) c.clear.ensures.items in
     let none = ap size_of c.clear.ensures.items in (
       record {
-        sound = record { id = kept.sound.id; size = omega (arith, kept.sound.size, added, whole); named = kept.sound.named };
+        sound = record { id = kept.sound.id; size = omega (arith, kept.sound.size, added, whole); named = kept.sound.named; apart = kept.sound.apart };
         whole = omega (arith, kept.whole, added, none);
         shown = omega (arith, none);
         settled = λ _. refl;
