@@ -2,3 +2,8 @@ pub mod OverlapLaws
 pub mod FrameWalks
 pub mod RecoveryLaws
 pub mod FoldLaws
+pub mod SoundLaws
+pub mod FillingLaws
+pub mod EnteringLaws
+pub mod FilledLaws
+pub mod WrittenLaws

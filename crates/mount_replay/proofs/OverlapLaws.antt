@@ -8,6 +8,7 @@ use Rattle.std.proofs.lemmas.List.Elements.{All-head, All-tail}
 use Rattle.std.proofs.lemmas.List.Sorted.{All-permutation, sum_by-IsPermutation}
 use Rattle.std.proofs.lemmas.List.Sums.{sum_by-cons}
 use Rattle.record_model.specs.declared.types.Extent.{Extent}
+use Rattle.log_model.specs.FileTable.{size_of}
 use Rattle.log_model.specs.Mounted.{share_a_byte, overlap}
 use Rattle.mount_replay.specs.Neighbours.{extent_at, Reaches, IsBehind}
 
@@ -153,3 +154,28 @@ apart_overlap xs rise apart = all_apart xs (λ i j less below.
     let none : Extent = record { start = 0; len = 0 } in
     let next : i + 1 < length xs = omega (arith, less, below) in
     behind_apart (extent_at xs i) (extent_at xs j) (omega (arith, apart i next, rise (i + 1) j none (omega (arith, less)) below)))
+
+-- ---- the bytes of extents that stay apart
+
+-- extents one behind the other, all within so many bytes
+room_behind : (y : Extent) (ys : List Extent) (n : ℕ) → ((i : ℕ) → suc i < length (y ∷ ys) → IsBehind (extent_at (y ∷ ys) i) (extent_at (y ∷ ys) (suc i))) → All (λ x. x.start + x.len ≤ n) (y ∷ ys)
+    → y.start + size_of (y ∷ ys) ≤ n
+room_behind y [] n apart all = omega (arith, sum_by-cons (λ (x : Extent). x.len) y [], All-head (λ (x : Extent). x.start + x.len ≤ n) y [] all)
+room_behind y (z ∷ zs) n apart all =
+    let next : y.start + y.len ≤ z.start = apart 0 (omega arith) in
+    let rest : z.start + size_of (z ∷ zs) ≤ n = room_behind z zs n (λ i below. apart (suc i) (omega (arith, below))) (All-tail (λ (x : Extent). x.start + x.len ≤ n) y (z ∷ zs) all) in
+    omega (arith, next, rest, sum_by-cons (λ (x : Extent). x.len) y (z ∷ zs))
+
+room_sorted : (ys : List Extent) (n : ℕ) → ((i : ℕ) → i + 1 < length ys → IsBehind (extent_at ys i) (extent_at ys (i + 1))) → All (λ x. x.start + x.len ≤ n) ys → size_of ys ≤ n
+room_sorted [] n apart all = omega arith
+room_sorted (y ∷ ys) n apart all =
+    let by_suc : (i : ℕ) → suc i < length (y ∷ ys) → IsBehind (extent_at (y ∷ ys) i) (extent_at (y ∷ ys) (suc i)) =
+    λ i below.
+    let same : i + 1 ≡ suc i = omega arith in
+    subst (λ (k : ℕ). IsBehind (extent_at (y ∷ ys) i) (extent_at (y ∷ ys) k)) same (apart i (omega (arith, below))) in
+    omega (arith, room_behind y ys n by_suc all)
+
+-- a list of which an order has neighbours that stay apart
+pub apart_room : (xs ys : List Extent) (n : ℕ) → IsPermutation xs ys → ((i : ℕ) → i + 1 < length ys → IsBehind (extent_at ys i) (extent_at ys (i + 1))) → All (λ x. x.start + x.len ≤ n) xs → size_of xs ≤ n
+apart_room xs ys n same apart all =
+    omega (arith, sum_by-IsPermutation (λ (x : Extent). x.len) xs ys same, room_sorted ys n apart (All-permutation (λ (x : Extent). x.start + x.len ≤ n) xs ys same all))

@@ -1,5 +1,5 @@
 -- The frames of a zone, one by one.
-use Rattle.std.specs.Prelude.{ℕ, ◌/◌, ◌<◌, ◌≤◌, ◌||◌, List, [], ◌∷◌, length, take, Option, Some, None, nat_lt, ◌==◌, if◌then◌else◌}
+use Rattle.std.specs.Prelude.{ℕ, ◌+◌, ◌*◌, ◌/◌, ◌<◌, ◌≤◌, ◌||◌, List, [], ◌∷◌, length, take, Option, Some, None, nat_lt, ◌==◌, if◌then◌else◌}
 use Rattle.std.specs.Int.{w64, from_le_bytes}
 use Rattle.record_model.specs.declared.types.Extent.{Extent}
 use Rattle.log_model.specs.Frames.{frame_blocks, frames_within}
@@ -19,10 +19,11 @@ abbrev pub frame_in : ℕ → List (List ℕ) → Option Frame
 frame_in block [] = None
 frame_in block (b ∷ bs) = frame_of block (length (b ∷ bs)) (from_le_bytes w64 (take 8 b))
 
--- a frame has a byte and a block, and not more blocks than are left
-pub record IsFrameWithin (left : ℕ) (f : Frame) : Type 0 where
+-- a frame has a byte and a block, room for its bytes and their number, and not more blocks than are left
+pub record IsFrameWithin (block left : ℕ) (f : Frame) : Type 0 where
   pub some : 0 < f.len
   pub takes : 0 < f.blocks
+  pub holds : 8 + f.len ≤ f.blocks * block
   pub within : f.blocks ≤ left
 
 -- the frames in these blocks, of which the first has this address

@@ -3,3 +3,5 @@ pub mod Rules
 pub mod FrameWalk
 pub mod Folding
 pub mod Payloads
+pub mod SoundTables
+pub mod Filling

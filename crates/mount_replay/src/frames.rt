@@ -1,12 +1,13 @@
 // The frames of sparse files, read from a device.
-ghost use Rattle.std.specs.Prelude.{◌≡◌, ◌+◌, ◌-◌, ◌*◌, ◌^◌, ◌<◌, ◌≤◌, ◌++◌, ◌∷◌, [], length, drop, take, IfOk, OnOk, IfSome, IsErr, IsErrOf};
+ghost use Rattle.std.specs.Prelude.{◌≡◌, ◌+◌, ◌-◌, ◌*◌, ◌^◌, ◌<◌, ◌≤◌, ◌++◌, ◌∷◌, [], length, drop, take, All, IfOk, OnOk, IfSome, IsErr, IsErrOf};
 ghost use Rattle.std.specs.Int.{w64, from_le_bytes};
 ghost use Rattle.zone_image.specs.Changes.{bytes_at};
 ghost use Rattle.zone_image.specs.Counts.{HasCause};
-ghost use Rattle.zone_image.specs.Image.{zone_at};
+ghost use Rattle.zone_image.specs.Image.{zone_at, zone_bytes};
 ghost use Rattle.zone_image.specs.Infos.{info_at};
 ghost use Rattle.zone_image.specs.Reads.{OnlyReads};
 ghost use Rattle.mount_replay.specs.FrameWalk.{frame_of, frame_in, frames_from, IsFrameWithin};
+ghost use Rattle.mount_replay.specs.Rules.{IsWrittenExtent};
 
 use crate::error::ReplayError;
 use record_model::Extent;
@@ -63,7 +64,7 @@ fn first_number(bytes: &[u8]) -> u64
 fn frame_of(block_size: u32, left: u32, len: u64) -> Option<Frame>
     requires { 0 < block_size }
     ensures exact { result ≡ frame_of block_size left len }
-    ensures within { IfSome result (IsFrameWithin left) }
+    ensures within { IfSome result (IsFrameWithin block_size left) }
 {
     let blocks = (u128::from(len) + 8).div_ceil(u128::from(block_size));
     if len == 0 || u128::from(left) < blocks {
@@ -91,7 +92,7 @@ fn next_frame<D: ZonedDevice>(
     requires same_written { written ≡ (info_at (D.infos dev.old) zone).written }
     requires within { at ≤ written }
     ensures frame { IfOk result (λ frame. D.tells → frame ≡ frame_in geometry.now.block (drop at (zone_at (D.image dev.old) zone).blocks)) }
-    ensures some { IfOk result (λ frame. IfSome frame (IsFrameWithin (written - at))) }
+    ensures some { IfOk result (λ frame. IfSome frame (IsFrameWithin geometry.now.block (written - at))) }
     ensures device { OnlyReads D.known D.geometry D.infos D.tells D.image D.tick D.since D.failed_changes dev.old dev.new }
     ensures cause { HasCause (D.faults dev.old) (D.faults dev.new) (IsErr result) }
 {
@@ -112,14 +113,18 @@ pub(crate) fn walk_frames<D: ZonedDevice>(
     extents: &mut Vec<Extent>,
 ) -> Result<(), ReplayError>
     requires is_known { D.known dev.old }
+    requires is_data { 3 ≤ from.zone }
     requires is_zone { from.zone < (D.geometry dev.old).zones }
     requires same_geometry { geometry.now ≡ D.geometry dev.old }
     requires whole { length block.old ≡ geometry.now.block }
+    requires place { from.start ≡ from.zone * zone_bytes geometry.now + from.first * geometry.now.block }
     requires same_written { from.written ≡ (info_at (D.infos dev.old) from.zone).written }
     requires within { from.first ≤ from.written }
     requires addresses { from.start + (from.written - from.first) * geometry.now.block + 8 < 2 ^ 64 }
     ensures found { OnOk result (D.tells → extents.new.items
         ≡ extents.old.items ++ frames_from geometry.now.block from.start (drop from.first (zone_at (D.image dev.old) from.zone).blocks)) }
+    ensures lie { OnOk result (All (IsWrittenExtent geometry.now (D.infos dev.old)) extents.old.items
+        → All (IsWrittenExtent geometry.now (D.infos dev.old)) extents.new.items) }
     ensures device { OnlyReads D.known D.geometry D.infos D.tells D.image D.tick D.since D.failed_changes dev.old dev.new }
     ensures cause { HasCause (D.faults dev.old) (D.faults dev.new) (IsErrOf result ReplayError.DevFault) }
 {

@@ -2,8 +2,10 @@
 #![tactic(auto)]
 
 mod error;
+mod filling;
 mod fold;
 mod frames;
+mod infos;
 mod log;
 mod overlap;
 mod records;

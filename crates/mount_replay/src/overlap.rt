@@ -1,15 +1,18 @@
 // Extents that share a byte.
 ghost use Rattle.std.specs.Prelude.{◌≡◌, ℕ, ◌+◌, ◌<◌, ◌≤◌, length, All, true, false};
 ghost use Rattle.std.specs.List.Sorted.{IsNonDecreasingBy};
+ghost use Rattle.log_model.specs.FileTable.{size_of};
 ghost use Rattle.log_model.specs.Mounted.{overlap};
 ghost use Rattle.mount_replay.specs.Neighbours.{extent_at, Reaches, IsBehind};
 
 use record_model::Extent;
 
-/// Whether two of these extents share a byte. They are sorted by their starts for it.
+/// Whether two of these extents share a byte. They are sorted by their starts for it. Where none do, they have no more
+/// bytes than there are addresses up to the end of the last (`room`).
 pub(crate) fn overlap(extents: &mut [Extent]) -> bool
     requires { All (λ x. 0 < x.len) extents.old }
-    ensures { result ≡ overlap extents.old }
+    ensures exact { result ≡ overlap extents.old }
+    ensures room { result ≡ false → (n : ℕ) → All (λ x. x.start + x.len ≤ n) extents.old → size_of extents.old ≤ n }
 {
     extents.sort_unstable_by_key(|extent| extent.start);
     reaches_next(extents)

@@ -4,6 +4,7 @@ ghost use Rattle.log_model.specs.FileTable.{is_end};
 ghost use Rattle.extent_map.specs.Applying.{rows_of};
 ghost use Rattle.extent_map.specs.Records.{recorded_of};
 ghost use Rattle.mount_replay.specs.Folding.{folded, IsDamagedAs};
+ghost use Rattle.mount_replay.specs.SoundTables.{IsSoundTable};
 
 use crate::error::ReplayError;
 use extent_map::{ApplyError, FileTable};
@@ -29,9 +30,11 @@ pub(crate) fn fold_record(
     table: &mut FileTable,
 ) -> Result<bool, ReplayError>
     requires settled { table.old.rows ≡ rows_of (recorded_of table.old.rows) }
+    requires sound { IsSoundTable (recorded_of table.old.rows) }
     requires short { length payload.now < 2 ^ 32 }
     ensures folded { IfOk result (λ ended. folded place.ended (recorded_of table.old.rows) (place.block, payload.now) ≡ Ok (ended, recorded_of table.new.rows)) }
     ensures settled { OnOk result (table.new.rows ≡ rows_of (recorded_of table.new.rows)) }
+    ensures sound { OnOk result (IsSoundTable (recorded_of table.new.rows)) }
     ensures damaged { IfErr result (IsDamagedAs place.zone (folded place.ended (recorded_of table.old.rows) (place.block, payload.now))) }
     ensures fault { IsErrOf result ReplayError.DevFault → ⊥ }
 {

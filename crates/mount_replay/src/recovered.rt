@@ -1,12 +1,12 @@
 // What is found again of a file from its recovery point.
-ghost use Rattle.std.specs.Prelude.{◌≡◌, ◌+◌, ◌-◌, ◌*◌, ◌/◌, ◌^◌, ◌<◌, ◌≤◌, ◌++◌, true, length, OnOk, IsErrOf, IsTrue};
+ghost use Rattle.std.specs.Prelude.{◌≡◌, ◌+◌, ◌-◌, ◌*◌, ◌/◌, ◌^◌, ◌<◌, ◌≤◌, ◌++◌, true, length, All, OnOk, IsErrOf, IsTrue};
 ghost use Rattle.zone_image.specs.Counts.{HasCause};
-ghost use Rattle.zone_image.specs.Image.{is_valid, zone_of, offset_of};
+ghost use Rattle.zone_image.specs.Image.{is_valid, zone_bytes, zone_of, offset_of};
 ghost use Rattle.zone_image.specs.Infos.{info_at};
 ghost use Rattle.zone_image.specs.Reads.{OnlyReads};
 ghost use Rattle.log_model.specs.Frames.{extent_if_any, recovered_extents};
 ghost use Rattle.mount_replay.specs.FrameWalk.{frame_start_of};
-ghost use Rattle.mount_replay.specs.Rules.{is_recovery_point_in, is_recovered_in};
+ghost use Rattle.mount_replay.specs.Rules.{is_recovery_point_in, is_recovered_in, IsWrittenExtent};
 
 use crate::error::ReplayError;
 use crate::frames::{FrameStart, push, walk_frames};
@@ -30,6 +30,7 @@ pub(crate) fn push_recovered<D: ZonedDevice>(
     requires same_geometry { geometry.now ≡ D.geometry dev.old }
     requires same_infos { infos.now ≡ D.infos dev.old }
     ensures found { OnOk result (D.tells → extents.new.items ≡ extents.old.items ++ recovered_extents (D.image dev.old) entry.now) }
+    ensures lie { OnOk result (All (IsWrittenExtent geometry.now infos.now) extents.old.items → All (IsWrittenExtent geometry.now infos.now) extents.new.items) }
     ensures device { OnlyReads D.known D.geometry D.infos D.tells D.image D.tick D.since D.failed_changes dev.old dev.new }
     ensures cause { HasCause (D.faults dev.old) (D.faults dev.new) (IsErrOf result ReplayError.DevFault) }
 {
@@ -55,8 +56,8 @@ fn is_recovered(geometry: &Geometry, infos: &[ZoneInfo], entry: &FileEntry) -> b
     entry.active != NO_ACTIVE && is_recovery_point(geometry, infos, entry.active)
 }
 
-// The zone of an address of the device.
-fn zone_of(geometry: &Geometry, start: u64) -> u32
+/// The zone of an address of the device.
+pub(crate) fn zone_of(geometry: &Geometry, start: u64) -> u32
     requires valid { IsTrue (is_valid geometry.now) }
     requires is_zone { zone_of geometry.now start < geometry.now.zones }
     ensures { result ≡ zone_of geometry.now start }
@@ -79,7 +80,9 @@ fn frame_start(geometry: &Geometry, infos: &[ZoneInfo], start: u64) -> FrameStar
     requires zones { length infos.now ≡ geometry.now.zones }
     requires point { is_recovery_point_in geometry.now infos.now start ≡ true }
     ensures exact { result ≡ frame_start_of geometry.now infos.now start }
+    ensures is_data { 3 ≤ result.zone }
     ensures is_zone { result.zone < geometry.now.zones }
+    ensures place { result.start ≡ result.zone * zone_bytes geometry.now + result.first * geometry.now.block }
     ensures within { result.first ≤ result.written }
     ensures addresses { result.start + (result.written - result.first) * geometry.now.block + 8 < 2 ^ 64 }
 {
@@ -92,8 +95,8 @@ fn frame_start(geometry: &Geometry, infos: &[ZoneInfo], start: u64) -> FrameStar
     }
 }
 
-// The written number of a zone.
-fn written_of(infos: &[ZoneInfo], zone: u32) -> u32
+/// The written number of a zone.
+pub(crate) fn written_of(infos: &[ZoneInfo], zone: u32) -> u32
     requires { zone < length infos.now }
     ensures { result ≡ (info_at infos.now zone).written }
 {

@@ -46,6 +46,7 @@ loop-taken-preserved g c =
       same_on c.args.reader.now old now c.loop-taken.invariant.2 c.in_ok-found.ensures.same,
       omega (arith, c.loop-taken.invariant.3, moved),
       c.in_ok-ended.ensures.settled,
+      c.in_ok-ended.ensures.sound,
       λ told.
           let blocks = (zone_at (D.image dev) zone).blocks in
           let takes = taken_at now old (D.image dev) (D.image c.loop-taken.dev) zone r c.loop-taken.invariant.2.zone (c.loop-taken.invariant.0.same_image told)
@@ -53,12 +54,12 @@ loop-taken-preserved g c =
           fold_more c.loop-taken.ended c.in_ok-ended.ended (recorded_of c.loop-taken.table.rows) (recorded_of c.fold_record.new.table.rows) (scan_left old blocks) (scan_left now blocks) r
           (replay_from false (recorded_of c.args.table.now.rows) (scan_left c.args.reader.now blocks).payloads) takes
           (subst (λ bytes. folded c.loop-taken.ended (recorded_of c.loop-taken.table.rows) (r.block, bytes) ≡ Ok (c.in_ok-ended.ended, recorded_of c.fold_record.new.table.rows)) c.items.ensures c.in_ok-ended.ensures.folded)
-          (c.loop-taken.invariant.5 told),
+          (c.loop-taken.invariant.6 told),
       λ told.
           let blocks = (zone_at (D.image dev) zone).blocks in
           let takes = taken_at now old (D.image dev) (D.image c.loop-taken.dev) zone r c.loop-taken.invariant.2.zone (c.loop-taken.invariant.0.same_image told)
           (subst (λ o. Takes (scan_left old (zone_at (D.image c.loop-taken.dev) old.zone).blocks) o (scan_left now (zone_at (D.image c.loop-taken.dev) old.zone).blocks)) c.in-Some.is (c.in_ok-found.ensures.takes told)) in
-          last_more c.loop-taken.last (scan_left old blocks) (scan_left now blocks) r (last_after 0 (scan_left c.args.reader.now blocks).payloads) takes (c.loop-taken.invariant.6 told),
+          last_more c.loop-taken.last (scan_left old blocks) (scan_left now blocks) r (last_after c.args.before (scan_left c.args.reader.now blocks).payloads) takes (c.loop-taken.invariant.7 told),
     )
 
 pub returns-clause-folded : goal.returns-clause-folded
@@ -72,7 +73,7 @@ returns-clause-folded g c = λ told.
     let past : length blocks ≤ c.loop-taken.reader.next = omega (arith, written, c.loop-taken.invariant.3, c.loop-taken-test.false) in
     fold_ends c.loop-taken.ended (recorded_of c.loop-taken.table.rows) (scan_left c.loop-taken.reader blocks)
     (replay_from false (recorded_of c.args.table.now.rows) (scan_left c.args.reader.now blocks).payloads)
-    (none_left c.loop-taken.reader blocks past) (c.loop-taken.invariant.5 told)
+    (none_left c.loop-taken.reader blocks past) (c.loop-taken.invariant.6 told)
 
 pub returns-clause-last : goal.returns-clause-last
 returns-clause-last g c = λ told.
@@ -83,5 +84,5 @@ returns-clause-last g c = λ told.
     let written : c.args.log.written ≡ length blocks =
     sym c.requires.same_length ∙ c.requires.same_written ∙ written_is (D.geometry dev) (D.infos dev) (D.image dev) zone (g.met.D.ZonedDevice.possible dev c.requires.is_known) (g.met.D.ZonedDevice.told dev told c.requires.is_known) c.requires.is_zone in
     let past : length blocks ≤ c.loop-taken.reader.next = omega (arith, written, c.loop-taken.invariant.3, c.loop-taken-test.false) in
-    last_ends c.loop-taken.last (scan_left c.loop-taken.reader blocks) (last_after 0 (scan_left c.args.reader.now blocks).payloads)
-    (none_left c.loop-taken.reader blocks past) (c.loop-taken.invariant.6 told)
+    last_ends c.loop-taken.last (scan_left c.loop-taken.reader blocks) (last_after c.args.before (scan_left c.args.reader.now blocks).payloads)
+    (none_left c.loop-taken.reader blocks past) (c.loop-taken.invariant.7 told)

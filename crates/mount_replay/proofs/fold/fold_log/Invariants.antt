@@ -6,6 +6,7 @@ use Rattle.extent_map.specs.Applying.{rows_of}
 use Rattle.extent_map.specs.Records.{recorded_of}
 use Rattle.meta_log.specs.Reader.{IsSameLog, scan_left}
 use Rattle.mount_replay.specs.Folding.{last_after}
+use Rattle.mount_replay.specs.SoundTables.{IsSoundTable}
 use Rattle.mount_replay.proofs.fold.fold_log.Given as goal
 
 abbrev pub invariant-loop-taken : goal.invariant-loop-taken
@@ -16,7 +17,8 @@ invariant-loop-taken g l =
     × IsSameLog l.fn.reader l.reader
     × (l._taken ≤ l.reader.next)
     × (l.table.rows ≡ rows_of (recorded_of l.table.rows))
+    × IsSoundTable (recorded_of l.table.rows)
     × (D.tells → replay_from l.ended (recorded_of l.table.rows) (scan_left l.reader (zone_at (D.image l.fn.dev) l.fn.reader.zone).blocks).payloads
     ≡ replay_from false (recorded_of l.fn.table.rows) (scan_left l.fn.reader (zone_at (D.image l.fn.dev) l.fn.reader.zone).blocks).payloads)
     × (D.tells → last_after l.last (scan_left l.reader (zone_at (D.image l.fn.dev) l.fn.reader.zone).blocks).payloads
-    ≡ last_after 0 (scan_left l.fn.reader (zone_at (D.image l.fn.dev) l.fn.reader.zone).blocks).payloads)
+    ≡ last_after l.fn.before (scan_left l.fn.reader (zone_at (D.image l.fn.dev) l.fn.reader.zone).blocks).payloads)

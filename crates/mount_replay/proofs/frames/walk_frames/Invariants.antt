@@ -1,7 +1,9 @@
 use Rattle.std.proofs.Common.{◌≡◌, ◌+◌, ◌-◌, ◌*◌, ◌≤◌, ◌++◌, drop}
-use Rattle.zone_image.specs.Image.{zone_at}
+use Rattle.std.specs.List.{All}
+use Rattle.zone_image.specs.Image.{zone_at, zone_bytes}
 use Rattle.zone_image.specs.Reads.{OnlyReads}
 use Rattle.mount_replay.specs.FrameWalk.{frames_from}
+use Rattle.mount_replay.specs.Rules.{IsWrittenExtent}
 use Rattle.mount_replay.proofs.frames.walk_frames.Given as goal
 
 abbrev pub invariant-loop-frame : goal.invariant-loop-frame
@@ -11,6 +13,8 @@ invariant-loop-frame g l =
     × (D.faults l.fn.dev ≤ D.faults l.dev)
     × (l.at ≤ l.from.written)
     × (l.start + (l.from.written - l.at) * l.geometry.block ≡ l.from.start + (l.from.written - l.from.first) * l.geometry.block)
+    × (l.start ≡ l.from.zone * zone_bytes l.geometry + l.at * l.geometry.block)
+    × (All (IsWrittenExtent l.geometry (D.infos l.fn.dev)) l.fn.extents.items → All (IsWrittenExtent l.geometry (D.infos l.fn.dev)) l.extents.items)
     × (D.tells → l.extents.items ++ frames_from l.geometry.block l.start (drop l.at (zone_at (D.image l.fn.dev) l.from.zone).blocks)
     ≡ l.fn.extents.items ++ frames_from l.geometry.block l.from.start (drop l.from.first (zone_at (D.image l.fn.dev) l.from.zone).blocks))
 

@@ -5,7 +5,7 @@ use Rattle.std.proofs.lemmas.List.Sorted.{IsNonDecreasingBy-from_sort_by_key, Al
 use Rattle.record_model.specs.declared.types.Extent.{Extent}
 use Rattle.log_model.specs.Mounted.{overlap}
 use Rattle.mount_replay.specs.Neighbours.{extent_at, Reaches, IsBehind}
-use Rattle.mount_replay.proofs.OverlapLaws.{HasByte, overlap-permutation, reached_overlap, apart_overlap}
+use Rattle.mount_replay.proofs.OverlapLaws.{apart_room, HasByte, overlap-permutation, reached_overlap, apart_overlap}
 use Rattle.mount_replay.proofs.overlap.overlap.Goals as goal
 
 pub reaches_next-requires : goal.reaches_next-requires
@@ -21,8 +21,11 @@ walked true xs ys same all rise reached apart =
     sym (reached_overlap ys found.0 rise (All-permutation HasByte xs ys same all) found.1 found.2) ∙ overlap-permutation xs ys same all
 walked false xs ys same all rise reached apart = sym (apart_overlap ys rise (apart refl)) ∙ overlap-permutation xs ys same all
 
-pub returns : goal.returns
-returns c =
+pub returns-clause-exact : goal.returns-clause-exact
+returns-clause-exact c =
     let rise : IsNonDecreasingBy (λ (x : Extent). x.start) c.sort_unstable_by_key.new.self =
     IsNonDecreasingBy-from_sort_by_key (λ (x : Extent). x.start) _ c.sort_unstable_by_key.ensures.sorted (λ a r q k. search rules) in
     walked c.reaches_next.result c.args.extents.now c.sort_unstable_by_key.new.self c.sort_unstable_by_key.ensures.permutation c.requires rise c.reaches_next.ensures.reached c.reaches_next.ensures.apart
+
+pub returns-clause-room : goal.returns-clause-room
+returns-clause-room c = λ none n all. apart_room c.args.extents.now c.sort_unstable_by_key.new.self n c.sort_unstable_by_key.ensures.permutation (c.reaches_next.ensures.apart none) all
