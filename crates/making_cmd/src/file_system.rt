@@ -35,7 +35,7 @@ pub fn make_fs<D: ZonedDevice, O: Sink>(
         × HasNewFs D.known D.geometry D.infos D.tells D.image (superblock_for settings.now random) dev.old dev.new
         × (O.tells → AddsFront (O.written out.old) (made_fs_text (D.geometry dev.new)) (O.written out.new)))
         (D.tells → D.absent dev.old)
-        (λ zone. IsTrue (not force) × (D.tells → begins_in (D.image dev.old) ≡ Some zone))) }
+        (λ zone. IsTrue (not force) × (D.tells → (D.absent dev.old → ⊥) × (begins_in (D.image dev.old) ≡ Some zone)))) }
     ensures unchanged { IfErr result (StaysUnmade (D.tells → D.image dev.new ≡ D.image dev.old)) }
     ensures silent { IfErr result (IsSilent (out.new ≡ out.old)) }
 {
@@ -58,6 +58,7 @@ pub fn make_fs<D: ZonedDevice, O: Sink>(
 fn shape_of<D: ZonedDevice>(dev: &mut D) -> Result<Geometry, MakeFsError>
     ensures known { OnOk result (D.known dev.new) }
     ensures shape { IfOk result (λ geometry. geometry ≡ D.geometry dev.new) }
+    ensures present { OnOk result (D.tells → D.absent dev.old → ⊥) }
     ensures refused { IfErr result (HasFsReason (Rose (D.faults dev.old) (D.faults dev.new)) ⊥ (D.tells → D.absent dev.old) (λ _. ⊥)) }
     ensures same_image { D.tells → D.image dev.new ≡ D.image dev.old }
     ensures never_falls { D.faults dev.old ≤ D.faults dev.new }
