@@ -5,7 +5,8 @@ use Rattle.std.proofs.lemmas.List.Folds.{list_any-append}
 use Rattle.clap.specs.Walk.{Held, Rule, nothing_held, reacted}
 use Rattle.clap.specs.Walk.Waiting.{idle, option}
 use Rattle.command_model.specs.Options.{Word, Setting, Shape, ◌>>=◌, only_if, before_equals, own_value, is_one_of, is_set, takes_value, setting, joined, one_word, add_setting, settings_from, settings_of}
-use Rattle.clap_words.specs.Told.{dashed, is_plain_name}
+use Rattle.clap_words.specs.Told.{dashed}
+use Rattle.clap_words.proofs.Lookups.{is_plain_name}
 use Rattle.clap_words.proofs.Lookups.{passes_named, told, told_flag, told_value, undashed}
 use Rattle.clap_words.proofs.Cuts.{bound, cut_joined, guarded, own, not_true}
 use Rattle.clap_words.proofs.Walks.{Goes, Meets, goes_on, no_words}

@@ -4,7 +4,8 @@ use Rattle.std.proofs.lemmas.List.{take_all}
 use denote.Ref.{Bor}
 use Rattle.clap.specs.Words.{App, Rule, with_rule}
 use Rattle.command_model.specs.Options.{Word}
-use Rattle.clap_words.specs.Told.{app_with, flag_rule, rules_for, value_rule, words_meant}
+use Rattle.clap_words.specs.Told.{app_with, flag_rule, rules_for, value_rule}
+use Rattle.command_words.specs.Shapes.{words_meant}
 
 pub one_more : (f : List ℕ → Rule) (a b : App) (names : List (Bor (List ℕ))) (d : Bor (List ℕ)) → 0 < length names → b ≡ with_rule a (f (get_or names 0 d).now)
     → fold with_rule b (map f (words_meant (take (length names - 1) (drop 1 names)))) ≡ fold with_rule a (map f (words_meant names))

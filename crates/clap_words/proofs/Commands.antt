@@ -7,7 +7,9 @@ use Rattle.command_model.specs.Options.{Word, Setting, Shape, ◌>>=◌, only_if
 use Rattle.command_model.specs.CommandLine.{Command, Verb, command, command_with, dst_file, force, geometry_in, image, path, shape_of, src_file, threshold_in, verb_of}
 use Rattle.command_model.specs.CommandLine.Command.{MakeImage, MakeFs, ListFiles, ShowSpace, Dump, ShowInfo, Backup, Restore, LinkFile, RenameFile, DeleteFile}
 use Rattle.command_model.specs.CommandLine.Verb.{Mkimage, Mkfs, List_, Df, Dump_, Info, Backup_, Restore_, Link_, Rename_, Delete_}
-use Rattle.clap_words.specs.Told.{command_behind, dashed, is_plain_name, verb_in}
+use Rattle.clap_words.specs.Told.{dashed, verb_in}
+use Rattle.command_words.specs.Commands.{command_after}
+use Rattle.clap_words.proofs.Lookups.{is_plain_name}
 use Rattle.clap_words.proofs.Lookups.{dashed_same}
 use Rattle.clap_words.proofs.Cuts.{bound}
 use Rattle.clap_words.proofs.Accepted.{IsTold}
@@ -47,14 +49,14 @@ module _ (ss : List Setting) where
       (λ at. of_bind Delete_ (value_in path ss) (λ name. Some (DeleteFile at name)) (λ name. refl))
 
 -- the words behind a first word are this command's
-pub behind : (ws : List Word) (w : Word) (rest : List Word) (cmd : Command) → ws ≡ w ∷ rest → Some cmd ≡ command ws → command_behind (verb_in cmd) rest ≡ Some cmd
+pub behind : (ws : List Word) (w : Word) (rest : List Word) (cmd : Command) → ws ≡ w ∷ rest → Some cmd ≡ command ws → command_after (verb_in cmd) [] rest ≡ Some cmd
 unfolding command
 behind ws w rest cmd is e =
     let whole : (verb_of w >>= (λ verb. settings_of (shape_of verb) rest >>= command_with verb)) ≡ Some cmd = sym (e ∙ ap command is) in
     let a = bound (verb_of w) (λ verb. settings_of (shape_of verb) rest >>= command_with verb) cmd whole in
     let b = bound (settings_of (shape_of a.0) rest) (command_with a.0) cmd a.2 in
     let same : verb_in cmd ≡ a.0 = subst (Makes a.0) b.2 (made b.0 a.0) in
-    ap (λ (v : Verb). command_behind v rest) same ∙ a.2
+    ap (λ (v : Verb). command_after v [] rest) same ∙ a.2
 
 -- ---- what clap is told
 

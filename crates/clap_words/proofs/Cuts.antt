@@ -5,7 +5,8 @@ use Rattle.clap.proofs.CutLemmas.{Lacks}
 use Rattle.clap.proofs.LexerLemmas.{name_and_value-at, name_and_value-without}
 use Rattle.clap.specs.Lexer.{has_byte, long_of, short_of}
 use Rattle.command_model.specs.Options.{Word, Setting, Shape, ◌>>=◌, only_if, before_equals, after_equals, some_value, own_value, takes_value, setting, joined}
-use Rattle.clap_words.specs.Told.{dashed, is_plain_name}
+use Rattle.clap_words.specs.Told.{dashed}
+use Rattle.clap_words.proofs.Lookups.{is_plain_name}
 use Rattle.clap_words.proofs.Lookups.{or_parts}
 
 lacks : (name : Word) → has_byte 61 name ≡ false → Lacks 61 name

@@ -4,9 +4,15 @@ use Rattle.std.specs.List.{list_all, list_any}
 use Rattle.std.proofs.lemmas.Slice.Eq.{bytes_eq-Decides}
 use Rattle.clap.proofs.WalkLemmas.{both}
 use Rattle.command_model.specs.Options.{Word, is_one_of}
+use Rattle.clap.specs.Lexer.{has_byte}
 use Rattle.clap.specs.Walk.{Rule, arg_by_id, arg_by_long, has_long}
 use Rattle.clap.specs.Simple.{filled, filled_from}
 use Rattle.clap_words.specs.Told.{dashed, value_rule, flag_rule, rules_for}
+
+-- a name has at least one byte and no equals sign
+abbrev pub is_plain_name : Word → Bool
+is_plain_name [] = false
+is_plain_name (b ∷ bs) = not (has_byte 61 (b ∷ bs))
 
 pub same_word : (w : Word) → bytes_eq w w ≡ true
 same_word w = (bytes_eq-Decides w w).1 refl

@@ -1,5 +1,5 @@
 -- The command of what clap found is that of the settings.
-use Rattle.std.proofs.Common.{◌≡◌, ◌∙◌, Bool, true, false, cond, not, ◌&&◌, List, ◌++◌, map, drop, fold, Option, Some, codes, refl, sym, ap, subst, bytes_eq}
+use Rattle.std.proofs.Common.{◌≡◌, ◌∙◌, Bool, true, false, cond, not, ◌&&◌, List, [], ◌++◌, map, drop, fold, Option, Some, codes, refl, sym, ap, subst, bytes_eq}
 use Rattle.std.specs.List.{list_all}
 use Rattle.std.specs.Option.{option_map_or}
 use Rattle.clap.proofs.WalkLemmas.{both}
@@ -11,8 +11,9 @@ use Rattle.command_model.specs.Options.{Word, Setting, Shape, ◌>>=◌, only_if
 use Rattle.command_model.specs.CommandLine.{Command, Verb, command_with, dst_file, force, geometry_in, image, path, shape_of, src_file, threshold_in}
 use Rattle.command_model.specs.CommandLine.Command.{MakeImage, MakeFs, ListFiles, ShowSpace, Dump, ShowInfo, Backup, Restore, LinkFile, RenameFile, DeleteFile}
 use Rattle.command_model.specs.CommandLine.Verb.{Mkimage, Mkfs, List_, Df, Dump_, Info, Backup_, Restore_, Link_, Rename_, Delete_}
-use Rattle.clap_words.specs.Told.{app_with, command_behind, dashed, rules_for}
-use Rattle.clap_words.specs.Law.{ReadsCommands, app_for, bare_names}
+use Rattle.clap_words.specs.Told.{app_for, app_with, bare_names, dashed, rules_for}
+use Rattle.command_words.specs.Commands.{command_after}
+use Rattle.clap_words.specs.Law.{ReadsCommands}
 use Rattle.clap_words.specs.Found.{flag_names, is_flagged, settings_found, value_names}
 use Rattle.clap_words.proofs.Lookups.{passes_named, told, undashed}
 use Rattle.clap_words.proofs.Cuts.{bound, not_true}
@@ -126,7 +127,7 @@ module _ (verb : Verb) (values flags : List Word) (t : IsTold (shape_of verb) va
     found_same : command_with verb (settings_found rows) ≡ command_with verb ss
     found_same = same_command (settings_found rows) ss verb (record { value = value_same; flag = flag_same })
 
-  module _ (ws : List Word) (cmd : Command) (e : command_behind verb ws ≡ Some cmd) where
+  module _ (ws : List Word) (cmd : Command) (e : command_after verb [] ws ≡ Some cmd) where
     -- clap takes the words of a command
     pub taken_words : takes (app_with (rules_for values flags)) ws ≡ true
     taken_words =

@@ -7,7 +7,8 @@ use Rattle.clap.specs.Walk.Waiting.{idle, option}
 use Rattle.clap.specs.Takes.{settle_passes, use_passes}
 use Rattle.clap.specs.declared.parser.matches.ValueSource.TheVariants.{CommandLine}
 use Rattle.command_model.specs.Options.{Word, Setting, is_one_of, is_set}
-use Rattle.clap_words.specs.Told.{dashed, is_plain_name}
+use Rattle.clap_words.specs.Told.{dashed}
+use Rattle.clap_words.proofs.Lookups.{is_plain_name}
 use Rattle.clap_words.proofs.Lookups.{id_value, long_flag, long_value, same_word, told, told_flag, told_value}
 use Rattle.clap_words.proofs.Cuts.{IsOwn, joined_more, long_joined, long_name, more_than_dashes}
 use Rattle.clap_words.proofs.Rows.{AllRight, right_push, row_from, row_is_set, row_of_setting, rows_push, used_adds}

@@ -1,19 +1,13 @@
 -- What clap is told of a command's options.
-use Rattle.std.specs.Prelude.{◌≡◌, ℕ, Bool, not, false, List, [], ◌∷◌, ◌++◌, map, Option, Some, true, codes}
-use denote.Ref.{Bor}
+use Rattle.std.specs.Prelude.{◌≡◌, List, [], ◌∷◌, ◌++◌, map, drop, Some, true, codes}
 use Rattle.clap.specs.Words.{App, Rule, new_rule}
-use Rattle.clap.specs.Lexer.{has_byte}
 use Rattle.clap.specs.Simple.{new_shape}
 use Rattle.clap.specs.declared.builder.action.ArgAction.TheVariants.{Set, SetTrue}
-use Rattle.command_model.specs.Options.{Word, Shape, ◌>>=◌, settings_of}
-use Rattle.command_model.specs.CommandLine.{Command, Verb, command_with, shape_of}
+use Rattle.command_model.specs.Options.{Word, Shape}
+use Rattle.command_model.specs.CommandLine.{Command, Verb, shape_of}
 use Rattle.command_model.specs.CommandLine.Command.{MakeImage, MakeFs, ListFiles, ShowSpace, Dump, ShowInfo, Backup, Restore, LinkFile, RenameFile, DeleteFile}
 use Rattle.command_model.specs.CommandLine.Verb.{Mkimage, Mkfs, List_, Df, Dump_, Info, Backup_, Restore_, Link_, Rename_, Delete_}
-
--- words that are borrowed
-abbrev pub words_meant : List (Bor (List ℕ)) → List Word
-words_meant [] = []
-words_meant (w ∷ ws) = w.now ∷ words_meant ws
+use Rattle.command_words.specs.Commands.{command_after}
 
 -- an option's name with the two hyphens before it
 abbrev pub dashed : Word → Word
@@ -33,22 +27,13 @@ verb_in (LinkFile at old new) = Link_
 verb_in (RenameFile at old new) = Rename_
 verb_in (DeleteFile at name) = Delete_
 
--- the command of the words behind the first one
-abbrev pub command_behind : Verb → List Word → Option Command
-command_behind verb ws = settings_of (shape_of verb) ws >>= command_with verb
-
 -- the options of a command
 abbrev pub shape_for : Command → Shape
 shape_for cmd = shape_of (verb_in cmd)
 
 -- the words are those behind the first one of this command
 abbrev pub AreOptionsOf : Command → List Word → Type 0
-AreOptionsOf cmd ws = command_behind (verb_in cmd) ws ≡ Some cmd
-
--- a name has at least one byte and no equals sign
-abbrev pub is_plain_name : Word → Bool
-is_plain_name [] = false
-is_plain_name (b ∷ bs) = not (has_byte 61 (b ∷ bs))
+AreOptionsOf cmd ws = command_after (verb_in cmd) [] ws ≡ Some cmd
 
 -- an option that has a value
 abbrev pub value_rule : Word → Rule
@@ -73,3 +58,11 @@ app_with rules = record {
   };
   subs = [];
 }
+
+-- names without their hyphens
+abbrev pub bare_names : List Word → List Word
+bare_names = map (drop 2)
+
+-- what clap is told of a command
+abbrev pub app_for : Verb → App
+app_for verb = app_with (rules_for (bare_names ((shape_of verb).required ++ (shape_of verb).optional)) (bare_names (shape_of verb).flags))

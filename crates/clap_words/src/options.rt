@@ -1,7 +1,8 @@
 // The names of a command's options.
-ghost use Rattle.std.specs.Prelude.{◌≡◌, ◌++◌, map};
+ghost use Rattle.std.specs.Prelude.{◌≡◌, ◌++◌};
 ghost use Rattle.command_words.specs.Commands.{command_meant};
-ghost use Rattle.clap_words.specs.Told.{dashed, shape_for, words_meant};
+ghost use Rattle.clap_words.specs.Told.{bare_names, shape_for};
+ghost use Rattle.command_words.specs.Shapes.{words_meant};
 
 use command_words::Command;
 
@@ -14,8 +15,8 @@ pub(crate) struct Options {
 
 /// The options of a command.
 pub(crate) fn options_of(command: &Command<'_>) -> Options
-    ensures values { map dashed (words_meant result.values.now) ≡ (shape_for (command_meant command.now)).required ++ (shape_for (command_meant command.now)).optional }
-    ensures flags { map dashed (words_meant result.flags.now) ≡ (shape_for (command_meant command.now)).flags }
+    ensures values { let shape = shape_for (command_meant command.now) in words_meant result.values.now ≡ bare_names (shape.required ++ shape.optional) }
+    ensures flags { words_meant result.flags.now ≡ bare_names (shape_for (command_meant command.now)).flags }
 {
     match command {
         Command::MakeImage { .. } => Options {

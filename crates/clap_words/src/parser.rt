@@ -2,7 +2,8 @@
 ghost use Rattle.std.specs.Prelude.{◌≡◌, true, IfOk, map, fold, [], string_bytes};
 ghost use Rattle.clap.specs.Simple.{matches_of};
 ghost use Rattle.clap.specs.Words.{app_of, found_of, rows_of, takes, with_rule};
-ghost use Rattle.clap_words.specs.Told.{value_rule, flag_rule, rules_for, app_with, words_meant};
+ghost use Rattle.clap_words.specs.Told.{value_rule, flag_rule, rules_for, app_with};
+ghost use Rattle.command_words.specs.Shapes.{words_meant};
 
 use crate::options::Options;
 use clap::error::ErrorKind;

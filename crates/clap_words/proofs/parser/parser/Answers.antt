@@ -1,7 +1,8 @@
 use Rattle.std.proofs.Common.{◌∙◌, map, fold, ap}
 use Rattle.std.proofs.lemmas.Result.{IfOk-weaker}
 use Rattle.clap.specs.Words.{App, with_rule}
-use Rattle.clap_words.specs.Told.{flag_rule, value_rule, words_meant}
+use Rattle.clap_words.specs.Told.{flag_rule, value_rule}
+use Rattle.command_words.specs.Shapes.{words_meant}
 use Rattle.clap_words.proofs.Builders.{both_added}
 use Rattle.clap_words.proofs.parser.parser.Goals as goal
 
