@@ -1,0 +1,12 @@
+pub mod Lookups
+pub mod Cuts
+pub mod Rows
+pub mod Walks
+pub mod Steps
+pub mod Accepted
+pub mod Builders
+pub mod Taken
+pub mod Commands
+pub mod Findings
+pub mod Defaults
+pub mod Same
