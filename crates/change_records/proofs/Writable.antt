@@ -181,7 +181,7 @@ commit_stays_writable rows r now valid each is early good few =
     }
 
 -- an entry with a recovery point
-pointed : (start : ℕ) (e : FileEntry) → start < 2 ^ 64 → IsWritable e → IsWritable (record e { active = start })
+pub pointed : (start : ℕ) (e : FileEntry) → start < 2 ^ 64 → IsWritable e → IsWritable (record e { active = start })
 pointed start e low w = record {
   id = w.id;
   size = w.size;
