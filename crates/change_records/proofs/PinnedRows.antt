@@ -3,7 +3,7 @@ use Rattle.std.specs.Prelude.{◌≡◌, ℕ, Bool, true, false, not, cond, List
 use Rattle.std.proofs.Common.{◌∙◌, ap, sym, subst, inl, inr}
 use Rattle.std.proofs.lemmas.Bool.{and_parts, and_from}
 use Rattle.std.proofs.lemmas.List.{map-append}
-use Rattle.std.specs.List.{AllByRecursion, list_all}
+use Rattle.std.specs.List.{list_all}
 use Rattle.zone_image.specs.Image.{Image}
 use Rattle.record_model.specs.declared.types.Extent.{Extent}
 use Rattle.record_model.specs.declared.types.FileEntry.{FileEntry}
@@ -18,6 +18,7 @@ use Rattle.change_records.specs.Recorded.{entries}
 use Rattle.change_records.specs.PinnedRows.{AreSomeOf, AddsNoExtent, CreateAddsNoExtent, NamesAddNoExtent, RenameAddsNoExtent, UnlinkAddsNoExtent}
 use Rattle.change_records.proofs.EntryLaws.{entries_dropped}
 use Rattle.change_records.proofs.FewerExtents.{same_extents, some_pass, some_apart, IsLess, labelled, some_of, tests_less, facts_less, extents_of}
+use Rattle.change_records.proofs.WrittenNames.{all_push}
 
 -- the lowest of three rules that is broken
 abbrev lowest : Bool → Bool → Bool → Option ℕ
@@ -137,11 +138,6 @@ one_more : (t : FileEntry → Bool) (e : FileEntry) (es : Table) → t e ≡ tru
 one_more t e [] h each = and_from (t e) true h refl
 one_more t e (f ∷ fs) h each = let parts = and_parts (t f) (list_all t fs) each in and_from (t f) (list_all t (fs ++ e ∷ [])) parts.0 (one_more t e fs h parts.1)
 
--- a fact of one more
-one_fact : (P : FileEntry → Type 0) (e : FileEntry) (es : Table) → P e → AllByRecursion P es → AllByRecursion P (es ++ e ∷ [])
-one_fact P e [] h each = (h, tt)
-one_fact P e (f ∷ fs) h each = (each.0, one_fact P e fs h each.1)
-
 -- a table with a new file is pinned
 pinned_new : (i : Image) (es : Table) (id : ℕ) (name : List ℕ) (hint : ℕ) (sparse : Bool) (now : ℕ) → IsPinned i es → IsPinned i (es ++ new_entry id name hint sparse now ∷ [])
 pinned_new i es id name hint sparse now pinned =
@@ -154,7 +150,7 @@ pinned_new i es id name hint sparse now pinned =
     record {
       extents = ap (list_all (is_durable i)) own ∙ pinned.extents;
       points = one_more (has_durable_point i) e es refl pinned.points;
-      sparse = one_fact SparseAlone e es (λ h. absurd cc) pinned.sparse;
+      sparse = all_push SparseAlone es e pinned.sparse (λ h. absurd cc);
       unbroken =
           all_passed (list_all (is_written i) (all_extents next)) (overlap (all_extents (map (recovered_entry i) next))) (list_all (has_valid_recovery_point i) next)
           (ap (list_all (is_written i)) own ∙ tests.0) (ap overlap found ∙ tests.1) (one_more (has_valid_recovery_point i) e es refl tests.2);
