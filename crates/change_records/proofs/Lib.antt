@@ -10,3 +10,4 @@ pub mod Writable
 pub mod PinnedData
 pub mod SameNames
 pub mod StepsWithoutRecord
+pub mod WritableTables

@@ -143,7 +143,7 @@ found_writable rows r each is =
     file_has IsWritable r.entry.id (entries rows) r.entry each (sym (row_entry r.entry.id rows) ∙ ap (λ o. option_map (λ q. q.entry) o) is)
 
 -- what holds of each of two lists
-all_more : (P : Extent → Type 0) (xs ys : List Extent) → AllByRecursion P xs → AllByRecursion P ys → AllByRecursion P (xs ++ ys)
+pub all_more : (P : Extent → Type 0) (xs ys : List Extent) → AllByRecursion P xs → AllByRecursion P ys → AllByRecursion P (xs ++ ys)
 all_more P [] ys h k = k
 all_more P (x ∷ xs) ys h k = (h.0, all_more P xs ys h.1 k)
 
