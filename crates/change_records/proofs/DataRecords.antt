@@ -14,6 +14,7 @@ use Rattle.log_model.proofs.ReplayLaws.{file_has, update_known, same_names, size
 use Rattle.fs_model.specs.declared.zones.Move.{Move}
 use Rattle.fs_model.specs.FsState.{TableRow, row_of, on_row}
 use Rattle.fs_model.specs.FileSteps.{committed, committed_entry, with_recovery_point, moved, moved_extent}
+use Rattle.fs_model.proofs.TreeLaws.{all_map}
 use Rattle.change_records.specs.Recorded.{entries, AreValid}
 use Rattle.change_records.specs.DataRecords.{CommitIsRecorded, RecoveryPointIsRecorded, ReplacementIsRecorded}
 use Rattle.change_records.proofs.EntryLaws.{made_by, entries_set, row_entry, only_row}
@@ -35,18 +36,13 @@ is_row r rows valid is =
       only = only_row 0 r.entry.id rows r valid.table.ids is;
     }
 
--- what follows of each row
-pub all_from_rows : (P Q : TableRow → Type 0) (rows : List TableRow) → ((q : TableRow) → P q → Q q) → AllByRecursion P rows → AllByRecursion Q rows
-all_from_rows P Q [] step h = tt
-all_from_rows P Q (q ∷ qs) step h = (step q h.0, all_from_rows P Q qs step h.1)
-
 -- a changed row's entry, under the names of the file, is set where it stood
 set_in_place : (rows : List TableRow) (r : TableRow) (change : TableRow → TableRow) → AreValid rows → IsRow r rows
     → (change r).entry.id ≡ r.entry.id → (change r).entry.names ≡ r.entry.names → set_entry (change r).entry (entries rows) ≡ entries (on_row r.entry.id change rows)
 set_in_place rows r change valid row id names =
     let it : FileEntry = (change r).entry in
     same_names (entries rows) r.entry it valid.table row.found id names
-    ∙ sym (entries_set change it rows (all_from_rows (λ q. q.entry.id ≡ r.entry.id → q ≡ r) (λ q. q.entry.id ≡ it.id → (change q).entry ≡ it) rows (λ q only at. ap (λ p. (change p).entry) (only (at ∙ id))) row.only))
+    ∙ sym (entries_set change it rows (all_map (λ q. q.entry.id ≡ r.entry.id → q ≡ r) (λ q. q.entry.id ≡ it.id → (change q).entry ≡ it) rows (λ q only at. ap (λ p. (change p).entry) (only (at ∙ id))) row.only))
     ∙ ap (λ n. entries (on_row n change rows)) id
 
 -- ---- commits

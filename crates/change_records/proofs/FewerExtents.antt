@@ -1,4 +1,4 @@
--- Tables with fewer entries, or with entries under other names, have no more extents.
+-- Tables with fewer entries, or with other names and times, have no more extents.
 use Rattle.std.specs.Prelude.{◌≡◌, ℕ, Bool, true, false, List, [], ◌∷◌, ◌++◌, map, flat_map, refl}
 use Rattle.std.proofs.Common.{◌∙◌, ap, sym, subst, ⊎_elim, inl, inr}
 use Rattle.std.proofs.lemmas.Bool.{or_parts, or_from, and_parts, and_from}
@@ -51,17 +51,21 @@ some_apart (x ∷ xs) ys h none =
     ap overlap kept.1
     ∙ or_from (list_any (share_a_byte x) kept.0) (overlap kept.0) (some_fail (share_a_byte x) xs kept.0 kept.2 parts.0) (some_apart xs kept.0 kept.2 parts.1)) h
 
--- the same entry with other names
-abbrev pub under_names : FileEntry → List (List ℕ) → FileEntry
-under_names e names = record e { names = names }
+-- names and a time
+abbrev pub Label : Type 0
+Label = List (List ℕ) × ℕ
 
--- a table without some entries of another one, and with other names
+-- the same entry with other names and another time
+abbrev pub labelled : FileEntry → Label → FileEntry
+labelled e l = record e { names = l.0; time = l.1 }
+
+-- a table without some entries of another one, and with other names and times
 abbrev pub IsLess : Table → Table → Type 0
 IsLess next [] = next ≡ []
-IsLess next (e ∷ es) = IsLess next es ⊎ ((names : List (List ℕ)) × (rest : Table) × (next ≡ under_names e names ∷ rest) × IsLess rest es)
+IsLess next (e ∷ es) = IsLess next es ⊎ ((l : Label) × (rest : Table) × (next ≡ labelled e l ∷ rest) × IsLess rest es)
 
--- it has some of what each entry has whatever its names
-pub some_of : (part : FileEntry → List Extent) → ((e : FileEntry) (names : List (List ℕ)) → part (under_names e names) ≡ part e) → (next es : Table) → IsLess next es
+-- it has some of what each entry has whatever its names and its time
+pub some_of : (part : FileEntry → List Extent) → ((e : FileEntry) (l : Label) → part (labelled e l) ≡ part e) → (next es : Table) → IsLess next es
     → AreSomeOf (flat_map part next) (flat_map part es)
 some_of part same next [] less = ap (flat_map part) less
 some_of part same next (e ∷ es) less =
@@ -71,17 +75,17 @@ some_of part same next (e ∷ es) less =
     (subst (λ xs. AreSomeOf (xs ++ flat_map part kept.1) (part e ++ flat_map part es)) (sym (same e kept.0))
     (some_behind (part e) (flat_map part es) (flat_map part kept.1) (some_of part same kept.1 es kept.3)))) less
 
--- a test that each entry passes whatever its names
-pub tests_less : (t : FileEntry → Bool) → ((e : FileEntry) (names : List (List ℕ)) → t (under_names e names) ≡ t e) → (next es : Table) → IsLess next es
+-- a test that each entry passes whatever its names and its time
+pub tests_less : (t : FileEntry → Bool) → ((e : FileEntry) (l : Label) → t (labelled e l) ≡ t e) → (next es : Table) → IsLess next es
     → list_all t es ≡ true → list_all t next ≡ true
 tests_less t same next [] less h = ap (list_all t) less
 tests_less t same next (e ∷ es) less h =
     let parts = and_parts (t e) (list_all t es) h in
     ⊎_elim (λ gone. tests_less t same next es gone parts.1)
-    (λ kept. ap (list_all t) kept.2 ∙ and_from (t (under_names e kept.0)) (list_all t kept.1) (same e kept.0 ∙ parts.0) (tests_less t same kept.1 es kept.3 parts.1)) less
+    (λ kept. ap (list_all t) kept.2 ∙ and_from (t (labelled e kept.0)) (list_all t kept.1) (same e kept.0 ∙ parts.0) (tests_less t same kept.1 es kept.3 parts.1)) less
 
--- a fact of each entry whatever its names
-pub facts_less : (P : FileEntry → Type 0) → ((e : FileEntry) (names : List (List ℕ)) → P e → P (under_names e names)) → (next es : Table) → IsLess next es
+-- a fact of each entry whatever its names and its time
+pub facts_less : (P : FileEntry → Type 0) → ((e : FileEntry) (l : Label) → P e → P (labelled e l)) → (next es : Table) → IsLess next es
     → AllByRecursion P es → AllByRecursion P next
 facts_less P same next [] less h = subst (AllByRecursion P) (sym less) tt
 facts_less P same next (e ∷ es) less h =

@@ -8,3 +8,6 @@ pub mod TreesAfter
 pub mod WrittenNames
 pub mod Writable
 pub mod PinnedData
+pub mod SameNames
+pub mod StepsWithoutRecord
+pub mod WritableTables

@@ -13,16 +13,16 @@ use Rattle.log_model.specs.FileTable.{Table}
 use Rattle.log_model.specs.Frames.{no_active, is_recovery_point}
 use Rattle.log_model.specs.Mounted.{is_written, all_extents, recovered_entry, has_valid_recovery_point, overlap}
 use Rattle.log_model.specs.MountLaws.{SparseAlone}
-use Rattle.log_model.proofs.ReplayLaws.{file_has}
+use Rattle.log_model.proofs.ReplayLaws.{file_has, all_from}
 use Rattle.fs_model.specs.FsState.{TableRow, row_of, on_row}
 use Rattle.fs_model.specs.FileSteps.{committed, with_recovery_point, moved}
 use Rattle.crash_cover.specs.Pinned.{is_durable, is_durable_point, has_durable_point, IsPinned, KeepsDurable}
 use Rattle.crash_cover.proofs.PinnedTables.{kept_written, kept_point}
 use Rattle.crash_cover.proofs.RestLaws.{kept_within}
+use Rattle.fs_model.proofs.TreeLaws.{all_map}
 use Rattle.change_records.specs.Recorded.{entries, AreValid}
 use Rattle.change_records.specs.PinnedData.{ShareNoByte, CommitStaysPinned, RecoveryPointStaysPinned, ReplacementStaysPinned}
 use Rattle.change_records.proofs.EntryLaws.{set_each, row_entry, only_row}
-use Rattle.change_records.proofs.DataRecords.{all_from_rows}
 use Rattle.change_records.proofs.PinnedRows.{all_passed}
 
 -- an image keeps its own durable blocks
@@ -58,11 +58,6 @@ entries_pass : (t : FileEntry → Bool) (es : Table) → AllByRecursion (λ e. t
 entries_pass t [] h = refl
 entries_pass t (e ∷ es) h = and_from (t e) (list_all t es) h.0 (entries_pass t es h.1)
 
--- what follows of each entry
-all_entries : (P Q : FileEntry → Type 0) (es : Table) → ((e : FileEntry) → P e → Q e) → AllByRecursion P es → AllByRecursion Q es
-all_entries P Q [] step h = tt
-all_entries P Q (e ∷ es) step h = (step e h.0, all_entries P Q es step h.1)
-
 -- durable extents are written
 written_too : (i : Image) (xs : List Extent) → IsValidImage i → list_all (is_durable i) xs ≡ true → list_all (is_written i) xs ≡ true
 written_too i [] valid h = refl
@@ -84,14 +79,14 @@ point_too i e valid h =
 pinned_by : (i : Image) (es : Table) → IsValidImage i → AllByRecursion (IsDurableEntry i) es → overlap (all_extents (map (recovered_entry i) es)) ≡ false → IsPinned i es
 pinned_by i es valid each apart =
     let extents : list_all (is_durable i) (all_extents es) ≡ true =
-    extents_pass (is_durable i) es (all_entries (IsDurableEntry i) (λ e. list_all (is_durable i) e.extents ≡ true) es (λ e d. d.extents) each) in record {
+    extents_pass (is_durable i) es (all_from (IsDurableEntry i) (λ e. list_all (is_durable i) e.extents ≡ true) es (λ e d. d.extents) each) in record {
       extents = extents;
-      points = entries_pass (has_durable_point i) es (all_entries (IsDurableEntry i) (λ e. has_durable_point i e ≡ true) es (λ e d. d.point) each);
-      sparse = all_entries (IsDurableEntry i) SparseAlone es (λ e d. d.sparse) each;
+      points = entries_pass (has_durable_point i) es (all_from (IsDurableEntry i) (λ e. has_durable_point i e ≡ true) es (λ e d. d.point) each);
+      sparse = all_from (IsDurableEntry i) SparseAlone es (λ e d. d.sparse) each;
       unbroken =
           all_passed (list_all (is_written i) (all_extents es)) (overlap (all_extents (map (recovered_entry i) es))) (list_all (has_valid_recovery_point i) es)
           (written_too i (all_extents es) valid extents) apart
-          (entries_pass (has_valid_recovery_point i) es (all_entries (IsDurableEntry i) (λ e. has_valid_recovery_point i e ≡ true) es (λ e d. point_too i e valid d.point) each));
+          (entries_pass (has_valid_recovery_point i) es (all_from (IsDurableEntry i) (λ e. has_valid_recovery_point i e ≡ true) es (λ e d. point_too i e valid d.point) each));
     }
 
 -- the entry of a row whose table is pinned
@@ -106,7 +101,7 @@ changed_pinned : (i : Image) (rows : List TableRow) (r : TableRow) (change : Tab
 changed_pinned i rows r change image valid is pinned durable apart =
     pinned_by i (entries (on_row r.entry.id change rows)) image
     (set_each (IsDurableEntry i) r.entry.id change rows
-    (all_from_rows (λ q. q.entry.id ≡ r.entry.id → q ≡ r) (λ q. q.entry.id ≡ r.entry.id → IsDurableEntry i (change q).entry) rows
+    (all_map (λ q. q.entry.id ≡ r.entry.id → q ≡ r) (λ q. q.entry.id ≡ r.entry.id → IsDurableEntry i (change q).entry) rows
     (λ q only at. subst (λ p. IsDurableEntry i (change p).entry) (sym (only at)) durable) (only_row 0 r.entry.id rows r valid.table.ids is))
     (all_durable i (entries rows) pinned.extents pinned.points pinned.sparse)) apart
 

@@ -3,7 +3,7 @@ use Rattle.std.specs.Prelude.{◌≡◌, ℕ, Bool, true, false, not, cond, List
 use Rattle.std.proofs.Common.{◌∙◌, ap, sym, subst, inl, inr}
 use Rattle.std.proofs.lemmas.Bool.{and_parts, and_from}
 use Rattle.std.proofs.lemmas.List.{map-append}
-use Rattle.std.specs.List.{AllByRecursion, list_all}
+use Rattle.std.specs.List.{list_all}
 use Rattle.zone_image.specs.Image.{Image}
 use Rattle.record_model.specs.declared.types.Extent.{Extent}
 use Rattle.record_model.specs.declared.types.FileEntry.{FileEntry}
@@ -17,7 +17,8 @@ use Rattle.crash_cover.specs.Pinned.{is_durable, has_durable_point, IsPinned}
 use Rattle.change_records.specs.Recorded.{entries}
 use Rattle.change_records.specs.PinnedRows.{AreSomeOf, AddsNoExtent, CreateAddsNoExtent, NamesAddNoExtent, RenameAddsNoExtent, UnlinkAddsNoExtent}
 use Rattle.change_records.proofs.EntryLaws.{entries_dropped}
-use Rattle.change_records.proofs.FewerExtents.{same_extents, some_pass, some_apart, IsLess, under_names, some_of, tests_less, facts_less, extents_of}
+use Rattle.change_records.proofs.FewerExtents.{same_extents, some_pass, some_apart, IsLess, labelled, some_of, tests_less, facts_less, extents_of}
+use Rattle.change_records.proofs.WrittenNames.{all_push}
 
 -- the lowest of three rules that is broken
 abbrev lowest : Bool → Bool → Bool → Option ℕ
@@ -37,27 +38,27 @@ all_passed true true valid a b c = absurd cc
 all_passed true false false a b c = absurd cc
 all_passed true false true a b c = refl
 
--- a table with fewer entries, or other names, is pinned where it was
-pinned_less : (i : Image) (next es : Table) → IsLess next es → IsPinned i es → IsPinned i next
+-- a table with fewer entries, or other names and times, is pinned where it was
+pub pinned_less : (i : Image) (next es : Table) → IsLess next es → IsPinned i es → IsPinned i next
 pinned_less i next es less pinned =
     let tests = none_broken (list_all (is_written i) (all_extents es)) (overlap (all_extents (map (recovered_entry i) es))) (list_all (has_valid_recovery_point i) es) pinned.unbroken in
-    let own : AreSomeOf (all_extents next) (all_extents es) = some_of (λ e. e.extents) (λ e names. refl) next es less in
-    let found = some_of (λ e. (recovered_entry i e).extents) (λ e names. refl) next es less in
+    let own : AreSomeOf (all_extents next) (all_extents es) = some_of (λ e. e.extents) (λ e l. refl) next es less in
+    let found = some_of (λ e. (recovered_entry i e).extents) (λ e l. refl) next es less in
     record {
       extents = some_pass (is_durable i) (all_extents es) (all_extents next) own pinned.extents;
-      points = tests_less (has_durable_point i) (λ e names. refl) next es less pinned.points;
-      sparse = facts_less SparseAlone (λ e names h. h) next es less pinned.sparse;
+      points = tests_less (has_durable_point i) (λ e l. refl) next es less pinned.points;
+      sparse = facts_less SparseAlone (λ e l h. h) next es less pinned.sparse;
       unbroken =
           all_passed (list_all (is_written i) (all_extents next)) (overlap (all_extents (map (recovered_entry i) next))) (list_all (has_valid_recovery_point i) next)
           (some_pass (is_written i) (all_extents es) (all_extents next) own tests.0)
           (ap overlap (extents_of (recovered_entry i) next)
           ∙ some_apart (flat_map (λ e. (recovered_entry i e).extents) es) (flat_map (λ e. (recovered_entry i e).extents) next) found (sym (ap overlap (extents_of (recovered_entry i) es)) ∙ tests.1))
-          (tests_less (has_valid_recovery_point i) (λ e names. refl) next es less tests.2);
+          (tests_less (has_valid_recovery_point i) (λ e l. refl) next es less tests.2);
     }
 
 -- an entry that keeps a name, or not, in front of fewer
-taken_choice : (b : Bool) (names : List (List ℕ)) (e : FileEntry) (rest es : Table) → IsLess rest es → IsLess (cond b (under_names e names ∷ rest) rest) (e ∷ es)
-taken_choice true names e rest es less = inr (names, rest, refl, less)
+taken_choice : (b : Bool) (names : List (List ℕ)) (e : FileEntry) (rest es : Table) → IsLess rest es → IsLess (cond b (labelled e (names, e.time) ∷ rest) rest) (e ∷ es)
+taken_choice true names e rest es less = inr ((names, e.time), rest, refl, less)
 taken_choice false names e rest es less = inl less
 
 -- a table of which names are taken
@@ -71,14 +72,14 @@ unlink_adds_no_extent rows name =
     let es : Table = entries rows in
     let next : Table = take_names (name ∷ []) es in
     let less : IsLess next es = taken_less (name ∷ []) es in record {
-      extents = subst (λ t. AreSomeOf (all_extents t) (all_extents es)) (sym (entries_dropped name rows)) (some_of (λ e. e.extents) (λ e names. refl) next es less);
+      extents = subst (λ t. AreSomeOf (all_extents t) (all_extents es)) (sym (entries_dropped name rows)) (some_of (λ e. e.extents) (λ e l. refl) next es less);
       pinned = λ i pinned. subst (IsPinned i) (sym (entries_dropped name rows)) (pinned_less i next es less pinned);
     }
 
 -- an entry with other names, if it is the one
 named_choice : (b : Bool) (names : List (List ℕ)) (q : TableRow) (rest es : Table) → IsLess rest es → IsLess ((if b then with_names names q else q).entry ∷ rest) (q.entry ∷ es)
-named_choice true names q rest es less = inr (names, rest, refl, less)
-named_choice false names q rest es less = inr (q.entry.names, rest, refl, less)
+named_choice true names q rest es less = inr ((names, q.entry.time), rest, refl, less)
+named_choice false names q rest es less = inr ((q.entry.names, q.entry.time), rest, refl, less)
 
 -- rows of which one gets other names
 named_less : (id : ℕ) (names : List (List ℕ)) (rows : List TableRow) → IsLess (entries (on_row id (with_names names) rows)) (entries rows)
@@ -137,11 +138,6 @@ one_more : (t : FileEntry → Bool) (e : FileEntry) (es : Table) → t e ≡ tru
 one_more t e [] h each = and_from (t e) true h refl
 one_more t e (f ∷ fs) h each = let parts = and_parts (t f) (list_all t fs) each in and_from (t f) (list_all t (fs ++ e ∷ [])) parts.0 (one_more t e fs h parts.1)
 
--- a fact of one more
-one_fact : (P : FileEntry → Type 0) (e : FileEntry) (es : Table) → P e → AllByRecursion P es → AllByRecursion P (es ++ e ∷ [])
-one_fact P e [] h each = (h, tt)
-one_fact P e (f ∷ fs) h each = (each.0, one_fact P e fs h each.1)
-
 -- a table with a new file is pinned
 pinned_new : (i : Image) (es : Table) (id : ℕ) (name : List ℕ) (hint : ℕ) (sparse : Bool) (now : ℕ) → IsPinned i es → IsPinned i (es ++ new_entry id name hint sparse now ∷ [])
 pinned_new i es id name hint sparse now pinned =
@@ -154,7 +150,7 @@ pinned_new i es id name hint sparse now pinned =
     record {
       extents = ap (list_all (is_durable i)) own ∙ pinned.extents;
       points = one_more (has_durable_point i) e es refl pinned.points;
-      sparse = one_fact SparseAlone e es (λ h. absurd cc) pinned.sparse;
+      sparse = all_push SparseAlone es e pinned.sparse (λ h. absurd cc);
       unbroken =
           all_passed (list_all (is_written i) (all_extents next)) (overlap (all_extents (map (recovered_entry i) next))) (list_all (has_valid_recovery_point i) next)
           (ap (list_all (is_written i)) own ∙ tests.0) (ap overlap found ∙ tests.1) (one_more (has_valid_recovery_point i) e es refl tests.2);

@@ -20,11 +20,12 @@ use Rattle.log_model.proofs.SelectedLog.{ok_is}
 use Rattle.fs_model.specs.FsState.{TableRow, row_named, on_row}
 use Rattle.fs_model.specs.TreeSteps.{new_entry, new_row, with_names, drop_name, renamed_rows}
 use Rattle.fs_model.specs.FileSteps.{commit_time, committed, with_recovery_point, moved}
+use Rattle.fs_model.proofs.TreeLaws.{all_map}
 use Rattle.change_records.specs.Recorded.{entries, AreValid}
 use Rattle.change_records.specs.TreesAfter.{CreateChangesTree, LinkChangesTree, RenameChangesTree, UnlinkChangesTree, CommitGrowsFile, RecoveryPointKeepsTree, ReplacementKeepsTree}
 use Rattle.change_records.proofs.EntryLaws.{entries_dropped, named_row, unnamed, row_entry, only_row}
 use Rattle.change_records.proofs.RenameRecords.{link_is_recorded, names_recorded, renamed_free, renamed_over, not_both}
-use Rattle.change_records.proofs.DataRecords.{all_from_rows, commit_is_recorded}
+use Rattle.change_records.proofs.DataRecords.{commit_is_recorded}
 
 pub create_changes_tree : CreateChangesTree
 unfolding apply
@@ -141,6 +142,6 @@ recovery_point_keeps_tree rows id start i =
 pub replacement_keeps_tree : ReplacementKeepsTree
 replacement_keeps_tree rows r moves valid is i bytes =
     same_tree i r.entry.id (moved moves) rows
-    (all_from_rows (λ q. q.entry.id ≡ r.entry.id → q ≡ r) (λ q. q.entry.id ≡ r.entry.id → file_in i (moved moves q).entry ≡ file_in i q.entry) rows
+    (all_map (λ q. q.entry.id ≡ r.entry.id → q ≡ r) (λ q. q.entry.id ≡ r.entry.id → file_in i (moved moves q).entry ≡ file_in i q.entry) rows
     (λ q only at. ap (λ p. file_in i (moved moves p).entry) (only at) ∙ ap (λ b. record (file_in i r.entry) { bytes = b }) bytes ∙ ap (λ p. file_in i p.entry) (sym (only at)))
     (only_row 0 r.entry.id rows r valid.table.ids is))

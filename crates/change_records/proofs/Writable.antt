@@ -18,12 +18,11 @@ use Rattle.fs_model.specs.declared.zones.Move.{Move}
 use Rattle.fs_model.specs.FsState.{TableRow, row_of, row_named, on_row}
 use Rattle.fs_model.specs.TreeSteps.{new_entry, new_row, with_names, entry_update, drop_name, renamed_rows, entry_in}
 use Rattle.fs_model.specs.FileSteps.{committed, committed_entry, with_recovery_point, moved, moved_start, moved_extent}
-use Rattle.fs_model.proofs.TreeLaws.{at_name}
+use Rattle.fs_model.proofs.TreeLaws.{at_name, all_map}
 use Rattle.change_records.specs.Recorded.{entries, AreValid}
 use Rattle.change_records.specs.Writable.{PayloadReadsAgain, AreWritable, StaysWritable, CreateStaysWritable, LinkStaysWritable, RenameStaysWritable, UnlinkStaysWritable, CommitStaysWritable, RecoveryPointStaysWritable, ReplacementStaysWritable}
 use Rattle.change_records.proofs.EntryLaws.{entries_dropped, named_row, has_the_name, unnamed, all_rows, set_each, row_entry, only_row}
 use Rattle.change_records.proofs.RenameRecords.{GetsNames, entry_after, entry_found, renamed_free, renamed_over}
-use Rattle.change_records.proofs.DataRecords.{all_from_rows}
 use Rattle.change_records.proofs.WrittenNames.{AreNames, names_of, under_others, all_push, one_more_name, name_in_place, taken_writable, among_good}
 
 pub payload_reads_again : PayloadReadsAgain
@@ -144,7 +143,7 @@ found_writable rows r each is =
     file_has IsWritable r.entry.id (entries rows) r.entry each (sym (row_entry r.entry.id rows) ∙ ap (λ o. option_map (λ q. q.entry) o) is)
 
 -- what holds of each of two lists
-all_more : (P : Extent → Type 0) (xs ys : List Extent) → AllByRecursion P xs → AllByRecursion P ys → AllByRecursion P (xs ++ ys)
+pub all_more : (P : Extent → Type 0) (xs ys : List Extent) → AllByRecursion P xs → AllByRecursion P ys → AllByRecursion P (xs ++ ys)
 all_more P [] ys h k = k
 all_more P (x ∷ xs) ys h k = (h.0, all_more P xs ys h.1 k)
 
@@ -176,12 +175,12 @@ commit_stays_writable rows r now valid each is early good few =
       spelled = committed_writable now r r.unrecorded w early few good;
       again =
           set_each IsWritable r.entry.id (committed now) rows
-          (all_from_rows (λ q. q.entry.id ≡ r.entry.id → q ≡ r) (λ q. q.entry.id ≡ r.entry.id → IsWritable (committed now q).entry) rows
+          (all_map (λ q. q.entry.id ≡ r.entry.id → q ≡ r) (λ q. q.entry.id ≡ r.entry.id → IsWritable (committed now q).entry) rows
           (λ q only at. subst (λ p. IsWritable (committed now p).entry) (sym (only at)) after) (only_row 0 r.entry.id rows r valid.table.ids is)) each;
     }
 
 -- an entry with a recovery point
-pointed : (start : ℕ) (e : FileEntry) → start < 2 ^ 64 → IsWritable e → IsWritable (record e { active = start })
+pub pointed : (start : ℕ) (e : FileEntry) → start < 2 ^ 64 → IsWritable e → IsWritable (record e { active = start })
 pointed start e low w = record {
   id = w.id;
   size = w.size;

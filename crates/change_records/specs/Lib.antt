@@ -5,3 +5,5 @@ pub mod PinnedRows
 pub mod TreesAfter
 pub mod Writable
 pub mod PinnedData
+pub mod Unrecorded
+pub mod RecordExamples

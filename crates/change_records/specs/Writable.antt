@@ -7,7 +7,7 @@ use Rattle.record_model.specs.Decoding.{record_of}
 use Rattle.record_model.specs.Grammar.{IsExtent, IsWritable, InGrammar}
 use Rattle.record_model.specs.declared.types.Record.{Record}
 use Rattle.record_model.specs.declared.types.Record.TheVariants.{Update, Deletion, Replace}
-use Rattle.log_model.specs.FileTable.{size_of}
+use Rattle.log_model.specs.FileTable.{Table, size_of, after_record}
 use Rattle.fs_model.specs.declared.zones.Move.{Move}
 use Rattle.fs_model.specs.FsState.{TableRow, row_of, row_named, on_row}
 use Rattle.fs_model.specs.TreeSteps.{new_entry, new_row, with_names, entry_update, drop_name, entry_in}
@@ -22,6 +22,10 @@ PayloadReadsAgain = (r : Record) → InGrammar r → length (payload_of r) < 2 ^
 -- each recorded entry can be written
 abbrev pub AreWritable : List TableRow → Type 0
 AreWritable rows = AllByRecursion IsWritable (entries rows)
+
+-- a record of the grammar makes a table that can be written of one that can
+abbrev pub RecordKeepsWritable : Type 0
+RecordKeepsWritable = (es next : Table) (r : Record) → AllByRecursion IsWritable es → InGrammar r → after_record r es ≡ Ok next → AllByRecursion IsWritable next
 
 -- the record is one of the grammar, and what is recorded after it can be written again
 pub record StaysWritable (r : Record) (after : List TableRow) : Type 0 where

@@ -1,9 +1,14 @@
 //! Laws of the grammar: each record that is written is one of it, and its payload is read as that record again.
-ghost use Rattle.change_records.specs.Writable.{PayloadReadsAgain, CreateStaysWritable, LinkStaysWritable, RenameStaysWritable, UnlinkStaysWritable, CommitStaysWritable, RecoveryPointStaysWritable, ReplacementStaysWritable};
+ghost use Rattle.change_records.specs.Writable.{PayloadReadsAgain, RecordKeepsWritable, CreateStaysWritable, LinkStaysWritable, RenameStaysWritable, UnlinkStaysWritable, CommitStaysWritable, RecoveryPointStaysWritable, ReplacementStaysWritable};
 
 /// The payload of a record of the grammar, of fewer than 2^32 bytes, is read as that record again.
 pub fn payload_reads_again()
     ensures { PayloadReadsAgain }
+{}
+
+/// Any record of the grammar, replayed, makes a table that can be written of one that can, whoever wrote it.
+pub fn record_keeps_writable()
+    ensures { RecordKeepsWritable }
 {}
 
 /// The record of a new file is one of the grammar, and what is recorded with it can be written.

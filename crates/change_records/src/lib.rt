@@ -8,3 +8,4 @@ pub mod names;
 pub mod pinned;
 pub mod pinned_data;
 pub mod trees;
+pub mod unrecorded;
