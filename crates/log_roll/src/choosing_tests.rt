@@ -8,7 +8,7 @@ use superblock_core::{AuxPath, Superblock, VersionText};
 use zone_image::Geometry;
 use zoned_device::{Failing, MemZones, ZonedDevice};
 
-const SHAPE: Geometry = Geometry {
+pub(crate) const SHAPE: Geometry = Geometry {
     block: 512,
     zone_blocks: 16,
     capacity: 16,
@@ -17,15 +17,15 @@ const SHAPE: Geometry = Geometry {
 };
 
 // A snapshot of no file, and an end record.
-const SNAPSHOT: &[u8] = b"\x01\0\0\0\0";
+pub(crate) const SNAPSHOT: &[u8] = b"\x01\0\0\0\0";
 
-const END: &[u8] = b"\x04\0\0\0";
+pub(crate) const END: &[u8] = b"\x04\0\0\0";
 
 // Past the bytes of a superblock, where none of them is changed.
-const NOWHERE: usize = 512;
+pub(crate) const NOWHERE: usize = 512;
 
 // A superblock with this sequence, of which one byte may be another.
-fn superblock(sequence: u32, at: usize, byte: u8) -> Result<[u8; 512], Fail> {
+pub(crate) fn superblock(sequence: u32, at: usize, byte: u8) -> Result<[u8; 512], Fail> {
     let superblock = Superblock {
         id: 0,
         sequence,
@@ -46,7 +46,7 @@ fn superblock(sequence: u32, at: usize, byte: u8) -> Result<[u8; 512], Fail> {
 }
 
 // The two blocks of a superblock, and those of the payloads behind it.
-fn log(
+pub(crate) fn log(
     rt: &impl Abort,
     alloc: Global,
     superblock: &[u8],
@@ -79,7 +79,7 @@ fn device(
 }
 
 // The choice on a device, in a few words.
-fn chosen<D: ZonedDevice>(alloc: Global, dev: &mut D) -> Result<String, Fail> {
+pub(crate) fn chosen<D: ZonedDevice>(alloc: Global, dev: &mut D) -> Result<String, Fail> {
     let geometry = dev.probe()?;
     let answer: Result<Chosen, ChooseError> = choose(alloc, dev, &geometry);
     Ok(match answer {

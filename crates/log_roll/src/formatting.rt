@@ -165,6 +165,10 @@ fn format_in_order<D: ZonedDevice>(
 /// sequence, then each data zone that has a block or a seal, and the superblock and an empty snapshot are written
 /// into zone 0 and made durable. `NoMemory` comes before any change. `DevFault` comes only where the device's
 /// count of faults rose.
+///
+/// Where each crash of the image at entry has a log that counts, what a crash leaves at any moment is one of three
+/// things (`device`, `FormatLeaves`): the data zones and the log of such a crash; no file system; or a log in zone 0
+/// that has this superblock and an empty snapshot and nothing else.
 pub fn format<D: ZonedDevice>(
     alloc: Global,
     dev: &mut D,

@@ -7,6 +7,8 @@ mod buffer;
 mod choosing;
 #[cfg(test)]
 mod choosing_tests;
+#[cfg(test)]
+mod crash_tests;
 mod error;
 mod first;
 mod formatting;

@@ -58,7 +58,7 @@ fn the_new_log_stands_in_the_next_zone(rt: HostRuntime) -> Result<(), Fail> {
 }
 
 // The superblock of a new file system.
-fn new_superblock() -> Result<Superblock, Fail>
+pub(crate) fn new_superblock() -> Result<Superblock, Fail>
     ensures { IfOk result (λ s. (s.flags ≡ 0) × (s.sequence ≡ 1) × (s.block ≡ 512) × (s.zone_blocks ≡ 16) × (s.zones ≡ 32)) }
 {
     Ok(Superblock {

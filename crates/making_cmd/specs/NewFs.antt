@@ -6,6 +6,7 @@ use Rattle.zone_image.specs.Image.{Image}
 use Rattle.zone_image.specs.Infos.{infos_of}
 use Rattle.superblock_core.specs.declared.superblock.Superblock.{Superblock}
 use Rattle.log_model.specs.Format.{formatted_image, new_superblock}
+use Rattle.log_roll.specs.FormatLeaves.{FormatLeaves, HasLogs}
 use Rattle.making_cmd.specs.declared.settings.Settings.{Settings}
 use Rattle.making_cmd.specs.declared.error.MakeFsError.{MakeFsError}
 use Rattle.making_cmd.specs.declared.error.MakeFsError.TheVariants.{DeviceFault, OutputFault, NoMemory, NotAnImage, FsExists}
@@ -39,3 +40,7 @@ StaysUnmade same _ = same
 abbrev pub IsSilent : Type 0 → MakeFsError → Type 0
 IsSilent quiet OutputFault = ⊤
 IsSilent quiet _ = quiet
+
+-- what a crash leaves of an image whose every crash has a log that counts: the old file system, none, or the new one
+abbrev pub LeavesOldOrNewFs : (Geometry → Superblock) → Image → Image → Type 0
+LeavesOldOrNewFs superblock i j = HasLogs i → FormatLeaves (superblock i.geometry) i j
