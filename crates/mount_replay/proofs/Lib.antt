@@ -7,3 +7,5 @@ pub mod FillingLaws
 pub mod EnteringLaws
 pub mod FilledLaws
 pub mod WrittenLaws
+pub mod RuleLaws
+pub mod FoundLaws

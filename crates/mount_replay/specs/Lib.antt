@@ -5,3 +5,4 @@ pub mod Folding
 pub mod Payloads
 pub mod SoundTables
 pub mod Filling
+pub mod Recovering

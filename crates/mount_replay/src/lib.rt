@@ -1,6 +1,7 @@
 //! The tables of a file system, read from its log and its zones.
 #![tactic(auto)]
 
+mod checks;
 mod error;
 mod filling;
 mod fold;
