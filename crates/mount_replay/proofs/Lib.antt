@@ -9,3 +9,5 @@ pub mod FilledLaws
 pub mod WrittenLaws
 pub mod RuleLaws
 pub mod FoundLaws
+pub mod RecoveredTables
+pub mod MountLaws

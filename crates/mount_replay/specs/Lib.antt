@@ -6,3 +6,4 @@ pub mod Payloads
 pub mod SoundTables
 pub mod Filling
 pub mod Recovering
+pub mod Replaying

@@ -8,9 +8,14 @@ mod fold;
 mod frames;
 mod infos;
 mod log;
+mod log_table;
+mod mount;
+mod mounted_files;
 mod overlap;
 mod records;
 mod recovered;
 mod rules;
+mod tables;
 
 pub use error::ReplayError;
+pub use mount::{Mounted, replay};

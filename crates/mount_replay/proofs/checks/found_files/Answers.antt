@@ -1,4 +1,4 @@
-use Rattle.std.proofs.Common.{◌≡◌, ℕ, ◌+◌, List, ◌^◌, ◌<◌, ◌≤◌, true, false, map, sym, ◌∙◌, ap, subst, refl, arith}
+use Rattle.std.proofs.Common.{◌≡◌, ℕ, ◌+◌, List, ◌^◌, ◌<◌, ◌≤◌, true, false, sym, ◌∙◌, ap, subst, refl, arith}
 use Rattle.std.specs.List.{All, AllZip, AllByRecursion}
 use Rattle.std.proofs.lemmas.List.Elements.{All-weaker}
 use Rattle.zone_image.specs.declared.Geometry.{Geometry}
@@ -8,10 +8,10 @@ use Rattle.zone_image.specs.Image.{Image}
 use Rattle.zone_image.specs.Infos.{IsImage, IsPossible}
 use Rattle.record_model.specs.declared.types.Extent.{Extent}
 use Rattle.record_model.specs.Grammar.{IsExtent, IsWritable}
-use Rattle.log_model.specs.FileTable.{Table, size_of}
+use Rattle.log_model.specs.FileTable.{size_of}
 use Rattle.log_model.specs.Mounted.{overlap, all_extents, broken_rule}
 use Rattle.zone_alloc.specs.ZoneTableState.{IsInDataZone}
-use Rattle.mount_replay.specs.Recovering.{IsFound, sized}
+use Rattle.mount_replay.specs.Recovering.{IsFound}
 use Rattle.mount_replay.specs.Rules.{IsWrittenExtent}
 use Rattle.mount_replay.proofs.FoundLaws.{written_files, found_extents, found_lie, found_table, found_writable, sized_extents, damaged_as, undamaged_broken}
 use Rattle.mount_replay.proofs.RuleLaws.{broken_by}

@@ -1,4 +1,4 @@
-use Rattle.std.proofs.Common.{ℕ, ◌<◌, ◌≤◌, length, get_or, sym, arith}
+use Rattle.std.proofs.Common.{ℕ, ◌<◌, length, get_or, arith}
 use Rattle.std.proofs.lemmas.List.{get_or_default}
 use Rattle.zone_image.proofs.ReadLaws.{reads_on}
 use Rattle.record_model.specs.declared.types.FileEntry.{FileEntry}

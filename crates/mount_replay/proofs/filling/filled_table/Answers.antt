@@ -1,5 +1,4 @@
-use Rattle.std.proofs.Common.{◌≡◌, ℕ, ◌≤◌, replicate, sum_by, Option, None, refl, sym, ◌∙◌, arith, rules}
-use Rattle.record_model.specs.declared.types.Extent.{Extent}
+use Rattle.std.proofs.Common.{sum_by, refl, ◌∙◌, arith, rules}
 use Rattle.log_model.specs.FileTable.{size_of}
 use Rattle.log_model.specs.Mounted.{all_extents}
 use Rattle.fs_model.specs.FsState.{touched}
