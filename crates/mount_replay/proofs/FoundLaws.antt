@@ -107,7 +107,7 @@ module _ (told : Type 0) (g : Geometry) (infos : List ZoneInfo) (i : Image) wher
   found_writable (x ∷ xs) (y ∷ ys) all w lie fits =
       let sum : size_of (y.extents ++ all_extents ys) ≡ size_of y.extents + size_of (all_extents ys) = sum_by-append (λ (z : Extent). z.len) y.extents (all_extents ys) in (
         subst (λ (f : FileEntry). IsWritable (sized f)) (sym all.0.same)
-        (writable_sized x y.extents w.0 (all_by_recursion IsExtent y.extents (all_first IsExtent y.extents (all_extents ys) lie)) (omega (arith, sum, fits))),
+            (writable_sized x y.extents w.0 (all_by_recursion IsExtent y.extents (all_first IsExtent y.extents (all_extents ys) lie)) (omega (arith, sum, fits))),
         found_writable xs ys all.1 w.1 (all_rest IsExtent y.extents (all_extents ys) lie) (omega (arith, sum, fits)),
       )
 

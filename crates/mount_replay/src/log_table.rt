@@ -50,14 +50,7 @@ pub(crate) fn log_table<D: ZonedDevice>(
     let Some(superblock) = next_record(alloc, dev, &mut reader)? else {
         return Ok(LogTable { table, last: 0 });
     };
-    match fold_log(
-        alloc,
-        dev,
-        log,
-        superblock.block,
-        &mut reader,
-        &mut table,
-    ) {
+    match fold_log(alloc, dev, log, superblock.block, &mut reader, &mut table) {
         Ok(last) => Ok(LogTable { table, last }),
         Err(e) => Err(e),
     }

@@ -17,7 +17,7 @@ loop-i-preserved g c =
       reads_on g.met.D.ZonedDevice.moments c.loop-i.invariant.0 c.in_ok-recover_file.ensures.device,
       omega (arith, c.loop-i.invariant.1, c.in_ok-recover_file.ensures.cause.never_falls),
       found_more D.tells shape infos (D.image c.args.dev.now) n c.args.files.now ys old c.recover_file.new.file c.loop-i.invariant.2 lt (get_or_default ys n c.index-files-i.result old lt)
-      (found_on D.tells shape infos (D.image c.args.dev.now) (D.image c.loop-i.dev) old c.recover_file.new.file c.loop-i.invariant.0.same_image c.in_ok-recover_file.ensures.found),
+          (found_on D.tells shape infos (D.image c.args.dev.now) (D.image c.loop-i.dev) old c.recover_file.new.file c.loop-i.invariant.0.same_image c.in_ok-recover_file.ensures.found),
     )
 
 pub returns-clause-found : goal.returns-clause-found

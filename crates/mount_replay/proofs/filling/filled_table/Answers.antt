@@ -16,8 +16,12 @@ enter_files-requires-clause-marks c =
 pub enter_files-requires-clause-blocks : goal.enter_files-requires-clause-blocks
 enter_files-requires-clause-blocks c =
     let g = c.args.geometry.now in
-    omega (arith, none_live_in (λ z. z.live) (λ info. refl) g c.args.collect c.args.infos.items c.in_ok-zones.zones c.in_ok-zones.ensures,
-    touched_sum g (all_extents c.args.files.now) (block_positive g c.requires.possible.valid) c.requires.lie, c.requires.fits)
+    omega (
+      arith,
+      none_live_in (λ z. z.live) (λ info. refl) g c.args.collect c.args.infos.items c.in_ok-zones.zones c.in_ok-zones.ensures,
+      touched_sum g (all_extents c.args.files.now) (block_positive g c.requires.possible.valid) c.requires.lie,
+      c.requires.fits,
+    )
 
 pub enter_files-requires-clause-bytes : goal.enter_files-requires-clause-bytes
 enter_files-requires-clause-bytes c =

@@ -19,9 +19,9 @@ loop-zone-preserved g c =
       reads_on g.met.D.ZonedDevice.moments c.loop-zone.invariant.0 c.in_ok-push_info.ensures.device,
       omega (arith, c.loop-zone.invariant.1, c.in_ok-push_info.ensures.cause.never_falls),
       c.in_ok-push_info.ensures.pushed
-      ∙ ap (λ l. l ++ info_at (D.infos c.loop-zone.dev) n ∷ []) c.loop-zone.invariant.2
-      ∙ ap (λ l. take n infos ++ info_at l n ∷ []) c.loop-zone.invariant.0.same_infos
-      ∙ sym (take_more infos n no_info lt),
+          ∙ ap (λ l. l ++ info_at (D.infos c.loop-zone.dev) n ∷ []) c.loop-zone.invariant.2
+          ∙ ap (λ l. take n infos ++ info_at l n ∷ []) c.loop-zone.invariant.0.same_infos
+          ∙ sym (take_more infos n no_info lt),
     )
 
 pub returns-clause-infos : goal.returns-clause-infos
