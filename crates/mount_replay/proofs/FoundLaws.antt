@@ -5,7 +5,7 @@ use Rattle.std.specs.List.{All, AllZip, AllByRecursion, list_all}
 use Rattle.std.proofs.lemmas.Bool.{and_parts, eqb-true, eqb-false, eq-eqb}
 use Rattle.std.proofs.Math.ListN.{length-set}
 use Rattle.std.proofs.lemmas.List.{get_or-set_same, get_or-set_other, get_or_default}
-use Rattle.std.proofs.lemmas.List.Elements.{All-nil, All-cons, All-append, All-head, All-tail}
+use Rattle.std.proofs.lemmas.List.Elements.{recursion_from_All, All-nil, All-cons, All-append, All-head, All-tail}
 use Rattle.std.proofs.lemmas.List.Sums.{sum_by-append}
 use Rattle.zone_image.specs.declared.Geometry.{Geometry}
 use Rattle.zone_image.specs.declared.ZoneInfo.{ZoneInfo}
@@ -52,10 +52,6 @@ writable_sized e xs w all fits = record {
   named = w.named;
   apart = w.apart;
 }
-
-all_by_recursion : (P : Extent → Type 0) (xs : List Extent) → All P xs → AllByRecursion P xs
-all_by_recursion P [] all = tt
-all_by_recursion P (x ∷ xs) all = (All-head P x xs all, all_by_recursion P xs (All-tail P x xs all))
 
 -- the sizes have no part in the extents
 pub sized_extents : (es : Table) → all_extents (map sized es) ≡ all_extents es
@@ -107,7 +103,7 @@ module _ (told : Type 0) (g : Geometry) (infos : List ZoneInfo) (i : Image) wher
   found_writable (x ∷ xs) (y ∷ ys) all w lie fits =
       let sum : size_of (y.extents ++ all_extents ys) ≡ size_of y.extents + size_of (all_extents ys) = sum_by-append (λ (z : Extent). z.len) y.extents (all_extents ys) in (
         subst (λ (f : FileEntry). IsWritable (sized f)) (sym all.0.same)
-            (writable_sized x y.extents w.0 (all_by_recursion IsExtent y.extents (all_first IsExtent y.extents (all_extents ys) lie)) (omega (arith, sum, fits))),
+            (writable_sized x y.extents w.0 (recursion_from_All IsExtent y.extents (all_first IsExtent y.extents (all_extents ys) lie)) (omega (arith, sum, fits))),
         found_writable xs ys all.1 w.1 (all_rest IsExtent y.extents (all_extents ys) lie) (omega (arith, sum, fits)),
       )
 

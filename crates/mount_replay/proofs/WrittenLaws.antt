@@ -9,9 +9,9 @@ use Rattle.std.proofs.lemmas.List.Elements.{All-nil, All-cons}
 use Rattle.std.proofs.lemmas.Nat.{div-add-mod', div-mul-add, mod-mul-add}
 use Rattle.zone_image.specs.declared.Geometry.{Geometry}
 use Rattle.zone_image.specs.declared.ZoneInfo.{ZoneInfo}
-use Rattle.zone_image.specs.Image.{is_valid, zone_bytes, zone_of, offset_of}
+use Rattle.zone_image.specs.Image.{Image, is_valid, zone_bytes, zone_of, offset_of}
 use Rattle.zone_image.specs.Address.{device_bytes}
-use Rattle.zone_image.specs.Infos.{no_info, info_at, IsPossible, IsPossibleInfo}
+use Rattle.zone_image.specs.Infos.{no_info, info_at, IsImage, IsPossible, IsPossibleInfo}
 use Rattle.record_model.specs.declared.types.Extent.{Extent}
 use Rattle.record_model.specs.Grammar.{IsExtent}
 use Rattle.log_model.specs.Frames.{extent_if_any}
@@ -143,3 +143,10 @@ all_if_any P start len each = go (len == 0) refl
     go : (c : Bool) → (len == 0) ≡ c → All P (cond c [] ((record { start = start; len = len }) ∷ []))
     go true none = All-nil P
     go false some = All-cons P (record { start = start; len = len }) [] (each (omega (arith, positive len some))) (All-nil P)
+
+-- the same of the zones too
+pub possible_as : (g h : Geometry) (infos told : List ZoneInfo) → g ≡ h → infos ≡ told → IsPossible h told → IsPossible g infos
+possible_as g h infos told shape same possible = subst (λ k. IsPossible k infos) (sym shape) (subst (λ l. IsPossible h l) (sym same) possible)
+
+pub told_as : (g h : Geometry) (infos told : List ZoneInfo) (i : Image) → g ≡ h → infos ≡ told → IsImage h told i → IsImage g infos i
+told_as g h infos told i shape same image = subst (λ k. IsImage k infos i) (sym shape) (subst (λ l. IsImage h l i) (sym same) image)

@@ -15,15 +15,8 @@ use Rattle.mount_replay.specs.Recovering.{IsFound}
 use Rattle.mount_replay.specs.Rules.{IsWrittenExtent}
 use Rattle.mount_replay.proofs.FoundLaws.{written_files, found_extents, found_lie, found_table, found_writable, sized_extents, damaged_as, undamaged_broken}
 use Rattle.mount_replay.proofs.RuleLaws.{broken_by}
-use Rattle.mount_replay.proofs.WrittenLaws.{in_data_zone, ends_within, device_small, extent_in_range}
+use Rattle.mount_replay.proofs.WrittenLaws.{possible_as, told_as, in_data_zone, ends_within, device_small, extent_in_range}
 use Rattle.mount_replay.proofs.checks.found_files.Goals as goal
-
--- the device's shape and its zones, by the caller's names
-possible_as : (g h : Geometry) (infos told : List ZoneInfo) → g ≡ h → infos ≡ told → IsPossible h told → IsPossible g infos
-possible_as g h infos told shape same possible = subst (λ k. IsPossible k infos) (sym shape) (subst (λ l. IsPossible h l) (sym same) possible)
-
-told_as : (g h : Geometry) (infos told : List ZoneInfo) (i : Image) → g ≡ h → infos ≡ told → IsImage h told i → IsImage g infos i
-told_as g h infos told i shape same image = subst (λ k. IsImage k infos i) (sym shape) (subst (λ l. IsImage h l i) (sym same) image)
 
 -- the bytes of extents that stay apart and lie in data zones
 bytes_fit : (g : Geometry) (infos : List ZoneInfo) (xs : List Extent) → IsPossible g infos → All (IsWrittenExtent g infos) xs → ((n : ℕ) → All (λ x. x.start + x.len ≤ n) xs → size_of xs ≤ n) → size_of xs < 2 ^ 64
