@@ -1,28 +1,24 @@
 -- What the image of a device mounts to, by its log's table.
-use Rattle.std.proofs.Common.{◌≡◌, ℕ, ◌+◌, Bool, false, List, [], ◌∷◌, drop, map, Option, Some, None, option_map, Result, Ok, Err, refl, sym, ◌∙◌, ap, subst}
+use Rattle.std.proofs.Common.{◌≡◌, ℕ, ◌+◌, Bool, List, [], ◌∷◌, drop, map, Option, Some, None, option_map, Ok, Err, refl, sym, ◌∙◌, ap, subst}
 use Rattle.std.specs.List.{enumerate_from}
 use Rattle.zone_image.specs.declared.Geometry.{Geometry}
 use Rattle.zone_image.specs.declared.ZoneInfo.{ZoneInfo}
 use Rattle.zone_image.specs.Image.{Image}
-use Rattle.zone_image.specs.Infos.{infos_of, IsImage}
+use Rattle.zone_image.specs.Infos.{IsImage}
 use Rattle.record_model.specs.FieldDecoding.{◌>>=◌}
-use Rattle.record_model.specs.declared.types.FileEntry.{FileEntry}
 use Rattle.log_model.specs.declared.selection.Chosen.{Chosen}
 use Rattle.log_model.specs.declared.selection.Damage.{Damage}
-use Rattle.log_model.specs.declared.selection.DamageWhy.{DamageWhy}
-use Rattle.log_model.specs.declared.selection.Refusal.{Refusal}
 use Rattle.log_model.specs.declared.selection.Refusal.TheVariants as refusal
 use Rattle.log_model.specs.AppendLaws.{scan_at, IsSelectedOn}
 use Rattle.log_model.specs.FileTable.{Table, replay_log}
 use Rattle.log_model.specs.LogSelection.{LogAt, chosen_of, select_log, scans_of}
 use Rattle.log_model.specs.Mounted.{last_block, in_zone, checked_table, recovered_entry, broken_rule, table_of, table_in}
-use Rattle.log_model.specs.MountedLogLaws.{HasTable}
 use Rattle.log_model.specs.TableLaws.{IsTable, AreSized}
 use Rattle.log_model.proofs.AppendLaws.{own_zone}
 use Rattle.log_model.proofs.MountedLogLaws.{selected_table_mounts}
 use Rattle.log_model.proofs.SelectedLog.{went_on, ok_is}
 use Rattle.log_model.proofs.SelectionLaws.{some_is}
-use Rattle.fs_model.specs.FsState.{greatest_id, state_with, zone_states}
+use Rattle.fs_model.specs.FsState.{greatest_id}
 use Rattle.extent_map.specs.Applying.{rows_of}
 use Rattle.extent_map.specs.Records.{recorded_of}
 use Rattle.extent_map.specs.TableState.{TableState}

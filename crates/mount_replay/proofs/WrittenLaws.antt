@@ -1,8 +1,8 @@
 -- Extents within the written part of a data zone.
-use Rattle.std.proofs.Common.{◌≡◌, ℕ, ◌+◌, ◌*◌, ◌-◌, ◌/◌, ◌%◌, ◌^◌, ◌<◌, ◌≤◌, Bool, true, false, cond, ◌&&◌, List, [], ◌∷◌, ◌++◌, length, nat_lt, nat_le, refl, sym, ◌∙◌, ap, subst, arith}
+use Rattle.std.proofs.Common.{◌≡◌, ℕ, ◌+◌, ◌*◌, ◌-◌, ◌/◌, ◌%◌, ◌^◌, ◌<◌, ◌≤◌, Bool, true, false, cond, ◌&&◌, List, [], ◌∷◌, length, nat_lt, nat_le, refl, sym, ◌∙◌, ap, subst, arith}
 use Rattle.std.specs.Prelude.{◌==◌, IsTrue}
 use Rattle.std.specs.List.{All}
-use Rattle.std.proofs.Math.Nat.{mul-le-mul_left, mul-le-mul_right, div-lt_iff_lt-mul}
+use Rattle.std.proofs.Math.Nat.{mul-le-mul_right}
 use Rattle.std.proofs.lemmas.Bool.{and_parts}
 use Rattle.std.proofs.lemmas.Bool.Decides.{nat_tests}
 use Rattle.std.proofs.lemmas.List.Elements.{All-nil, All-cons}
@@ -11,12 +11,12 @@ use Rattle.zone_image.specs.declared.Geometry.{Geometry}
 use Rattle.zone_image.specs.declared.ZoneInfo.{ZoneInfo}
 use Rattle.zone_image.specs.Image.{Image, is_valid, zone_bytes, zone_of, offset_of}
 use Rattle.zone_image.specs.Address.{device_bytes}
-use Rattle.zone_image.specs.Infos.{no_info, info_at, IsImage, IsPossible, IsPossibleInfo}
+use Rattle.zone_image.specs.Infos.{no_info, info_at, IsImage, IsPossible}
 use Rattle.record_model.specs.declared.types.Extent.{Extent}
 use Rattle.record_model.specs.Grammar.{IsExtent}
 use Rattle.log_model.specs.Frames.{extent_if_any}
 use Rattle.zone_alloc.specs.ZoneTableState.{IsInDataZone}
-use Rattle.mount_replay.specs.Rules.{is_written_in, is_recovery_point_in, IsWrittenExtent}
+use Rattle.mount_replay.specs.Rules.{is_recovery_point_in, IsWrittenExtent}
 
 -- the written blocks of a zone have no more bytes than a zone
 written_fits : (g : Geometry) (infos : List ZoneInfo) (zone : ℕ) → IsPossible g infos → zone < g.zones → (info_at infos zone).written * g.block ≤ zone_bytes g

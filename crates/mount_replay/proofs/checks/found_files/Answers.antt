@@ -4,8 +4,7 @@ use Rattle.std.proofs.lemmas.List.Elements.{All-weaker}
 use Rattle.zone_image.specs.declared.Geometry.{Geometry}
 use Rattle.zone_image.specs.declared.ZoneInfo.{ZoneInfo}
 use Rattle.zone_image.specs.Address.{device_bytes}
-use Rattle.zone_image.specs.Image.{Image}
-use Rattle.zone_image.specs.Infos.{IsImage, IsPossible}
+use Rattle.zone_image.specs.Infos.{IsPossible}
 use Rattle.record_model.specs.declared.types.Extent.{Extent}
 use Rattle.record_model.specs.Grammar.{IsExtent, IsWritable}
 use Rattle.log_model.specs.FileTable.{size_of}

@@ -1,8 +1,7 @@
-use Rattle.std.proofs.Common.{◌≡◌, ℕ, ◌+◌, ◌<◌, ◌≤◌, ◌++◌, [], ◌∷◌, length, take, sym, ◌∙◌, ap, arith}
+use Rattle.std.proofs.Common.{ℕ, ◌<◌, ◌≤◌, ◌++◌, [], ◌∷◌, length, take, sym, ◌∙◌, ap, arith}
 use Rattle.std.proofs.lemmas.List.{take_more, take_all}
 use Rattle.zone_image.proofs.ReadLaws.{reads_on}
 use Rattle.zone_image.specs.declared.Geometry.{Geometry}
-use Rattle.zone_image.specs.declared.ZoneInfo.{ZoneInfo}
 use Rattle.zone_image.specs.Infos.{no_info, info_at}
 use Rattle.mount_replay.proofs.infos.zone_infos.Goals as goal
 

@@ -1,4 +1,4 @@
-use Rattle.std.proofs.Common.{◌≡◌, ℕ, Bool, List, map, sym, ◌∙◌, ap, subst}
+use Rattle.std.proofs.Common.{Bool, List, map, sym, ◌∙◌, ap, subst}
 use Rattle.zone_image.proofs.ReadLaws.{reads_on}
 use Rattle.zone_image.specs.declared.Geometry.{Geometry}
 use Rattle.zone_image.specs.declared.ZoneInfo.{ZoneInfo}

@@ -1,18 +1,16 @@
-use Rattle.std.proofs.Common.{◌≡◌, ℕ, ◌^◌, ◌<◌, List, length, drop, map, Option, None, Ok, sym, ◌∙◌, ap, subst}
+use Rattle.std.proofs.Common.{◌≡◌, ℕ, ◌^◌, ◌<◌, length, map, Option, None, sym, ◌∙◌, ap, subst}
 use Rattle.std.specs.List.{All, AllByRecursion}
 use Rattle.std.proofs.lemmas.List.{with_items_is}
 use Rattle.zone_image.proofs.ReadLaws.{reads_on}
 use Rattle.zone_image.specs.Image.{Image}
 use Rattle.record_model.specs.Grammar.{IsWritable}
-use Rattle.log_model.specs.AppendLaws.{scan_at}
-use Rattle.log_model.specs.FileTable.{Table, replay_log, size_of}
+use Rattle.log_model.specs.FileTable.{Table, size_of}
 use Rattle.log_model.specs.Mounted.{all_extents, broken_rule, recovered_entry}
 use Rattle.log_model.specs.TableLaws.{AreSized}
 use Rattle.zone_alloc.specs.ZoneTableState.{IsInDataZone}
 use Rattle.extent_map.specs.Records.{recorded_of}
 use Rattle.mount_replay.specs.Recovering.{IsBrokenAs}
 use Rattle.mount_replay.specs.Replaying.{AreMounted}
-use Rattle.mount_replay.specs.SoundTables.{IsSoundTable}
 use Rattle.mount_replay.proofs.MountLaws.{are_mounted, refused_by_log, refused_by_rule}
 use Rattle.mount_replay.proofs.mounted_files.mounted_files.Goals as goal
 

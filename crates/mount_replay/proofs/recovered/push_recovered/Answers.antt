@@ -1,10 +1,8 @@
 use Rattle.std.proofs.Common.{◌≡◌, ℕ, ◌-◌, ◌*◌, ◌++◌, List, drop, sym, ◌∙◌, ap, subst, arith, append-nil}
 use Rattle.std.specs.List.{All}
 use Rattle.std.proofs.lemmas.List.Elements.{All-append}
-use Rattle.zone_image.specs.Infos.{info_at, IsImage, IsPossible}
-use Rattle.zone_image.specs.declared.Geometry.{Geometry}
-use Rattle.zone_image.specs.declared.ZoneInfo.{ZoneInfo}
-use Rattle.zone_image.specs.Image.{Image, zone_at}
+use Rattle.zone_image.specs.Infos.{info_at}
+use Rattle.zone_image.specs.Image.{zone_at}
 use Rattle.zone_image.proofs.ReadLaws.{reads_nothing}
 use Rattle.record_model.specs.declared.types.Extent.{Extent}
 use Rattle.log_model.specs.Frames.{extent_if_any}
