@@ -1,16 +1,13 @@
 -- Zones into which extents are entered.
-use Rattle.std.proofs.Common.{◌≡◌, ◌≢◌, ℕ, zero, suc, ◌+◌, ◌*◌, ◌-◌, ◌/◌, ◌^◌, ◌<◌, ◌≤◌, Bool, true, false, cond, List, [], ◌∷◌, ◌++◌, length, take, drop, map, replicate, nat_lt, get_or, set, sum_by, Option, Some, None, refl, sym, ◌∙◌, ap, subst, arith, zero-add, append-nil, append_assoc}
+use Rattle.std.proofs.Common.{◌≡◌, ◌≢◌, ℕ, zero, suc, ◌+◌, ◌*◌, ◌-◌, ◌/◌, ◌<◌, ◌≤◌, Bool, true, false, cond, List, [], ◌∷◌, ◌++◌, length, take, nat_lt, get_or, set, sum_by, Option, Some, None, refl, sym, ◌∙◌, ap, subst, arith, append-nil, append_assoc}
 use Rattle.std.specs.Prelude.{◌==◌, IsTrue}
-use Rattle.std.specs.List.{All, enumerate_from}
-use Rattle.std.proofs.Math.Nat.{mul-le-mul_left, mul-le-mul_right, div-lt_iff_lt-mul}
+use Rattle.std.specs.List.{All}
+use Rattle.std.proofs.Math.Nat.{mul-le-mul_left, div-lt_iff_lt-mul}
 use Rattle.std.proofs.lemmas.Bool.{eqb-true, eqb-false}
-use Rattle.std.proofs.lemmas.List.{take_more, take_all, length-map, get_or-map, same_lists}
 use Rattle.std.proofs.lemmas.List.Elements.{All-head, All-tail}
-use Rattle.std.proofs.lemmas.List.FromFn.{length-enumerate_from, get_or-enumerate_from}
 use Rattle.std.proofs.lemmas.List.Sums.{sum_by-cons, sum_by-append, sum_by-set, sum_by_push}
 use Rattle.zone_image.specs.declared.Geometry.{Geometry}
-use Rattle.zone_image.specs.declared.ZoneInfo.{ZoneInfo}
-use Rattle.zone_image.specs.Image.{is_valid, zone_of}
+use Rattle.zone_image.specs.Image.{zone_of}
 use Rattle.zone_image.specs.Changes.{change_at}
 use Rattle.zone_image.proofs.ImageLaws.{change_at_is, length-change_at, All-change_at}
 use Rattle.record_model.specs.declared.types.Extent.{Extent}

@@ -1,12 +1,11 @@
 -- What extents, entered one after another, make of a zone.
-use Rattle.std.proofs.Common.{◌≡◌, ℕ, zero, suc, ◌+◌, ◌*◌, ◌-◌, ◌/◌, ◌%◌, ◌^◌, ◌<◌, ◌≤◌, Bool, true, false, cond, ◌&&◌, List, [], ◌∷◌, ◌++◌, length, map, filter, nat_lt, get_or, sum_by, refl, sym, ◌∙◌, ap, arith, add-zero, zero-add, add_assoc, append-nil}
+use Rattle.std.proofs.Common.{◌≡◌, ℕ, ◌+◌, ◌^◌, ◌<◌, ◌≤◌, Bool, true, false, cond, ◌&&◌, List, [], ◌∷◌, ◌++◌, map, nat_lt, sum_by, refl, sym, ◌∙◌, ap, arith, add-zero, append-nil}
 use Rattle.std.specs.Prelude.{◌==◌}
 use Rattle.std.specs.List.{flat_map, enumerate_from}
 use Rattle.std.proofs.lemmas.Bool.{ltb-true, ltb-false}
 use Rattle.std.proofs.lemmas.List.Elements.{filter-append}
 use Rattle.std.proofs.lemmas.List.Sums.{sum_by-cons, sum_by-append}
 use Rattle.zone_image.specs.declared.Geometry.{Geometry}
-use Rattle.zone_image.specs.declared.ZoneInfo.{ZoneInfo}
 use Rattle.zone_image.specs.Image.{Image, Zone, zone_of}
 use Rattle.zone_image.specs.Infos.{info_of, infos_of}
 use Rattle.record_model.specs.declared.types.Extent.{Extent}
@@ -15,7 +14,7 @@ use Rattle.log_model.specs.declared.selection.Chosen.{Chosen}
 use Rattle.log_model.specs.FileTable.{Table, size_of}
 use Rattle.log_model.specs.Mounted.{all_extents}
 use Rattle.fs_model.specs.declared.zones.ZoneState.{ZoneState}
-use Rattle.fs_model.specs.FsState.{FsState, ZoneDescriptor, touched, lowest_start, hint_from, working_of, state_of, state_with, zone_states, mounted_descriptor, mounted_row}
+use Rattle.fs_model.specs.FsState.{touched, lowest_start, hint_from, working_of, state_of, state_with, zone_states, mounted_descriptor, mounted_row}
 use Rattle.mount_replay.specs.Filling.{extents_within, filled_zone, filled_zones, ZoneMark, marked, marked_all, marked_files}
 
 -- a zone with these in place of its own

@@ -1,14 +1,17 @@
 -- Folding a log, one payload after another.
-use Rattle.std.proofs.Common.{◌≡◌, ℕ, zero, suc, ◌≤◌, Bool, ◌||◌, List, [], ◌∷◌, length, drop, Option, Some, None, Result, Ok, Err, refl, sym, ◌∙◌, ap, subst, arith, length-drop}
+use Rattle.std.proofs.Common.{◌≡◌, ℕ, zero, suc, ◌≤◌, Bool, false, ◌||◌, List, [], ◌∷◌, length, drop, Option, Some, None, Result, Ok, Err, refl, sym, ◌∙◌, ap, subst, arith, length-drop}
 use Rattle.std.specs.List.{All}
+use Rattle.zone_image.specs.declared.Geometry.{Geometry}
+use Rattle.zone_image.specs.Image.{Image, zone_at}
 use Rattle.std.proofs.lemmas.List.{nil_from_length}
 use Rattle.std.proofs.lemmas.List.Elements.{All-map}
 use Rattle.record_model.specs.declared.types.Record.{Record}
 use Rattle.record_model.specs.FieldDecoding.{◌>>=◌}
 use Rattle.record_model.specs.Decoding.{record_of}
 use Rattle.log_model.specs.declared.selection.DamageWhy.{DamageWhy}
-use Rattle.log_model.specs.FileTable.{Table, placed, decoded, next_table, is_end, replay_from}
-use Rattle.log_model.specs.LogScan.{Scan, ScanEnd, with_payload, scan_from, scan_within, first_item}
+use Rattle.log_model.specs.AppendLaws.{scan_at}
+use Rattle.log_model.specs.FileTable.{Table, placed, decoded, next_table, is_end, replay_from, replay_log}
+use Rattle.log_model.specs.LogScan.{Scan, ScanEnd, with_payload, scan, scan_from, scan_within, first_item}
 use Rattle.log_model.specs.Mounted.{last_block}
 use Rattle.fs_model.specs.FsState.{TableRow, mounted_row}
 use Rattle.extent_map.specs.Applying.{rows_of}
@@ -100,3 +103,30 @@ last_more last whole rest r all takes before = sym (ap (λ (s : Scan). last_afte
 
 pub last_ends : (last : ℕ) (whole : Scan) (all : ℕ) → whole.payloads ≡ [] → last_after last whole.payloads ≡ all → last ≡ all
 last_ends last whole all none before = sym (ap (last_after last) none) ∙ before
+
+-- ---- a log whose first payload is its superblock
+
+-- a new reader has the whole log of its zone before it
+pub new_reader : (r : ReaderState) (i : Image) (g : Geometry) (zone written : ℕ) → r ≡ record { zone = zone; block_size = g.block; written = written; next = 0; ended = None } → g ≡ i.geometry
+    → scan_left r (zone_at i r.zone).blocks ≡ scan_at i zone
+unfolding scan
+new_reader r i g zone written is shape =
+    ap (λ (s : ReaderState). scan_left s (zone_at i s.zone).blocks) is ∙ ap (λ (h : Geometry). scan h.block (zone_at i zone).blocks) shape
+
+-- a log of no payload
+pub nothing_replayed : (whole : Scan) (es : Table) → es ≡ [] → whole.payloads ≡ [] → replay_log (drop 1 whole.payloads) ≡ Ok es
+unfolding replay_log
+nothing_replayed whole es none empty = ap (λ ps. replay_log (drop 1 ps)) empty ∙ ap Ok (sym none)
+
+-- the payloads behind the first
+pub rest_replayed : (whole rest : Scan) (r : LogRecord) (es : Table) → es ≡ [] → whole ≡ with_payload r.block r.payload rest → replay_log (drop 1 whole.payloads) ≡ replay_from false es rest.payloads
+unfolding replay_log
+rest_replayed whole rest r es none takes = ap (λ (s : Scan). replay_log (drop 1 s.payloads)) takes ∙ ap (λ (t : Table). replay_from false t rest.payloads) (sym none)
+
+-- the last payload of these
+first_last : (p : ℕ × List ℕ) (ps : List (ℕ × List ℕ)) → last_block (p ∷ ps) ≡ last_after p.0 ps
+first_last p [] = refl
+first_last p (q ∷ ps) = last_is p.0 q ps
+
+pub rest_last : (whole rest : Scan) (r : LogRecord) → whole ≡ with_payload r.block r.payload rest → last_after r.block rest.payloads ≡ last_block whole.payloads
+rest_last whole rest r takes = sym (ap (λ (s : Scan). last_block s.payloads) takes ∙ first_last (r.block, r.payload) rest.payloads)

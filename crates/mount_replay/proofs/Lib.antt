@@ -7,3 +7,7 @@ pub mod FillingLaws
 pub mod EnteringLaws
 pub mod FilledLaws
 pub mod WrittenLaws
+pub mod RuleLaws
+pub mod FoundLaws
+pub mod RecoveredTables
+pub mod MountLaws

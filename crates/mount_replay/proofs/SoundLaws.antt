@@ -1,5 +1,5 @@
 -- A table stays sound after each record.
-use Rattle.std.proofs.Common.{◌≡◌, ◌≢◌, ℕ, ◌<◌, Bool, true, false, not, cond, List, [], ◌∷◌, ◌++◌, length, Option, Some, None, is_some, Ok, filter, refl, sym, ◌∙◌, ap, subst}
+use Rattle.std.proofs.Common.{◌≡◌, ◌≢◌, ℕ, ◌<◌, Bool, true, false, not, cond, List, [], ◌∷◌, ◌++◌, length, Option, Some, None, is_some, Ok, filter, refl, subst}
 use Rattle.std.proofs.lemmas.Bool.{ltb-true, lt-ltb}
 use Rattle.std.specs.List.{AllByRecursion, list_all}
 use Rattle.record_model.specs.FieldDecoding.{◌>>=◌}
@@ -7,7 +7,7 @@ use Rattle.record_model.specs.declared.types.FileEntry.{FileEntry}
 use Rattle.record_model.specs.declared.types.Record.{Record}
 use Rattle.record_model.specs.declared.types.Record.TheVariants.{Snapshot, Update, Deletion, End, Replace}
 use Rattle.record_model.specs.Grammar.{IsExtent, AreApart, IsWritable, InGrammar}
-use Rattle.log_model.specs.FileTable.{Table, file_of, is_among, is_named, names_left, without_names, take_names, set_entry, has_right_size, repeats_id, repeats_name, sorted, unless_broken, grown, delete_from, after_record}
+use Rattle.log_model.specs.FileTable.{Table, file_of, is_among, is_named, without_names, take_names, set_entry, has_right_size, repeats_id, repeats_name, sorted, unless_broken, grown, delete_from, after_record}
 use Rattle.log_model.specs.TableLaws.{IsNamedRecord}
 use Rattle.log_model.proofs.TableLaws.{others_of}
 use Rattle.log_model.proofs.ReplayLaws.{file_has, all_from}

@@ -1,22 +1,22 @@
 -- Extents within the written part of a data zone.
-use Rattle.std.proofs.Common.{◌≡◌, ℕ, ◌+◌, ◌*◌, ◌-◌, ◌/◌, ◌%◌, ◌^◌, ◌<◌, ◌≤◌, Bool, true, false, cond, ◌&&◌, List, [], ◌∷◌, ◌++◌, length, nat_lt, nat_le, refl, sym, ◌∙◌, ap, subst, arith}
+use Rattle.std.proofs.Common.{◌≡◌, ℕ, ◌+◌, ◌*◌, ◌-◌, ◌/◌, ◌%◌, ◌^◌, ◌<◌, ◌≤◌, Bool, true, false, cond, ◌&&◌, List, [], ◌∷◌, length, nat_lt, nat_le, refl, sym, ◌∙◌, ap, subst, arith}
 use Rattle.std.specs.Prelude.{◌==◌, IsTrue}
 use Rattle.std.specs.List.{All}
-use Rattle.std.proofs.Math.Nat.{mul-le-mul_left, mul-le-mul_right, div-lt_iff_lt-mul}
+use Rattle.std.proofs.Math.Nat.{mul-le-mul_right}
 use Rattle.std.proofs.lemmas.Bool.{and_parts}
 use Rattle.std.proofs.lemmas.Bool.Decides.{nat_tests}
 use Rattle.std.proofs.lemmas.List.Elements.{All-nil, All-cons}
 use Rattle.std.proofs.lemmas.Nat.{div-add-mod', div-mul-add, mod-mul-add}
 use Rattle.zone_image.specs.declared.Geometry.{Geometry}
 use Rattle.zone_image.specs.declared.ZoneInfo.{ZoneInfo}
-use Rattle.zone_image.specs.Image.{is_valid, zone_bytes, zone_of, offset_of}
+use Rattle.zone_image.specs.Image.{Image, is_valid, zone_bytes, zone_of, offset_of}
 use Rattle.zone_image.specs.Address.{device_bytes}
-use Rattle.zone_image.specs.Infos.{no_info, info_at, IsPossible, IsPossibleInfo}
+use Rattle.zone_image.specs.Infos.{no_info, info_at, IsImage, IsPossible}
 use Rattle.record_model.specs.declared.types.Extent.{Extent}
 use Rattle.record_model.specs.Grammar.{IsExtent}
 use Rattle.log_model.specs.Frames.{extent_if_any}
 use Rattle.zone_alloc.specs.ZoneTableState.{IsInDataZone}
-use Rattle.mount_replay.specs.Rules.{is_written_in, is_recovery_point_in, IsWrittenExtent}
+use Rattle.mount_replay.specs.Rules.{is_recovery_point_in, IsWrittenExtent}
 
 -- the written blocks of a zone have no more bytes than a zone
 written_fits : (g : Geometry) (infos : List ZoneInfo) (zone : ℕ) → IsPossible g infos → zone < g.zones → (info_at infos zone).written * g.block ≤ zone_bytes g
@@ -143,3 +143,10 @@ all_if_any P start len each = go (len == 0) refl
     go : (c : Bool) → (len == 0) ≡ c → All P (cond c [] ((record { start = start; len = len }) ∷ []))
     go true none = All-nil P
     go false some = All-cons P (record { start = start; len = len }) [] (each (omega (arith, positive len some))) (All-nil P)
+
+-- the same of the zones too
+pub possible_as : (g h : Geometry) (infos told : List ZoneInfo) → g ≡ h → infos ≡ told → IsPossible h told → IsPossible g infos
+possible_as g h infos told shape same possible = subst (λ k. IsPossible k infos) (sym shape) (subst (λ l. IsPossible h l) (sym same) possible)
+
+pub told_as : (g h : Geometry) (infos told : List ZoneInfo) (i : Image) → g ≡ h → infos ≡ told → IsImage h told i → IsImage g infos i
+told_as g h infos told i shape same image = subst (λ k. IsImage k infos i) (sym shape) (subst (λ l. IsImage h l i) (sym same) image)

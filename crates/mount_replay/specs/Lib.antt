@@ -5,3 +5,5 @@ pub mod Folding
 pub mod Payloads
 pub mod SoundTables
 pub mod Filling
+pub mod Recovering
+pub mod Replaying

@@ -1,5 +1,5 @@
 // The frames of sparse files, read from a device.
-ghost use Rattle.std.specs.Prelude.{◌≡◌, ◌+◌, ◌-◌, ◌*◌, ◌^◌, ◌<◌, ◌≤◌, ◌++◌, ◌∷◌, [], length, drop, take, All, IfOk, OnOk, IfSome, IsErr, IsErrOf};
+ghost use Rattle.std.specs.Prelude.{◌≡◌, ◌+◌, ◌-◌, ◌*◌, ◌^◌, ◌<◌, ◌≤◌, ◌++◌, ◌∷◌, [], length, drop, take, All, IfOk, OnOk, IfErr, IfSome, IsErr, IsErrOf};
 ghost use Rattle.std.specs.Int.{w64, from_le_bytes};
 ghost use Rattle.zone_image.specs.Changes.{bytes_at};
 ghost use Rattle.zone_image.specs.Counts.{HasCause};
@@ -7,6 +7,7 @@ ghost use Rattle.zone_image.specs.Image.{zone_at, zone_bytes};
 ghost use Rattle.zone_image.specs.Infos.{info_at};
 ghost use Rattle.zone_image.specs.Reads.{OnlyReads};
 ghost use Rattle.mount_replay.specs.FrameWalk.{frame_of, frame_in, frames_from, IsFrameWithin};
+ghost use Rattle.mount_replay.specs.Payloads.{IsNoDamage};
 ghost use Rattle.mount_replay.specs.Rules.{IsWrittenExtent};
 
 use crate::error::ReplayError;
@@ -123,6 +124,7 @@ pub(crate) fn walk_frames<D: ZonedDevice>(
     requires addresses { from.start + (from.written - from.first) * geometry.now.block + 8 < 2 ^ 64 }
     ensures found { OnOk result (D.tells → extents.new.items
         ≡ extents.old.items ++ frames_from geometry.now.block from.start (drop from.first (zone_at (D.image dev.old) from.zone).blocks)) }
+    ensures only { IfErr result IsNoDamage }
     ensures lie { OnOk result (All (IsWrittenExtent geometry.now (D.infos dev.old)) extents.old.items
         → All (IsWrittenExtent geometry.now (D.infos dev.old)) extents.new.items) }
     ensures device { OnlyReads D.known D.geometry D.infos D.tells D.image D.tick D.since D.failed_changes dev.old dev.new }

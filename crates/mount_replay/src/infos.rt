@@ -1,8 +1,9 @@
 // What a device tells of all its zones.
-ghost use Rattle.std.specs.Prelude.{◌≡◌, ◌++◌, ◌<◌, ◌∷◌, [], IfOk, OnOk, IsErrOf};
+ghost use Rattle.std.specs.Prelude.{◌≡◌, ◌++◌, ◌<◌, ◌∷◌, [], IfOk, OnOk, IfErr, IsErrOf};
 ghost use Rattle.zone_image.specs.Counts.{HasCause};
 ghost use Rattle.zone_image.specs.Infos.{info_at};
 ghost use Rattle.zone_image.specs.Reads.{OnlyReads};
+ghost use Rattle.mount_replay.specs.Payloads.{IsNoDamage};
 
 use crate::error::ReplayError;
 use std::alloc::Global;
@@ -17,6 +18,7 @@ pub(crate) fn zone_infos<D: ZonedDevice>(
 ) -> Result<Vec<ZoneInfo>, ReplayError>
     requires is_known { D.known dev.old }
     requires same_geometry { geometry.now ≡ D.geometry dev.old }
+    ensures only { IfErr result IsNoDamage }
     ensures infos { IfOk result (λ infos. infos.items ≡ D.infos dev.old) }
     ensures device { OnlyReads D.known D.geometry D.infos D.tells D.image D.tick D.since D.failed_changes dev.old dev.new }
     ensures cause { HasCause (D.faults dev.old) (D.faults dev.new) (IsErrOf result ReplayError.DevFault) }
@@ -36,6 +38,7 @@ fn push_info<D: ZonedDevice>(
 ) -> Result<(), ReplayError>
     requires is_known { D.known dev.old }
     requires is_zone { zone < (D.geometry dev.old).zones }
+    ensures only { IfErr result IsNoDamage }
     ensures pushed { OnOk result (infos.new.items ≡ infos.old.items ++ info_at (D.infos dev.old) zone ∷ []) }
     ensures device { OnlyReads D.known D.geometry D.infos D.tells D.image D.tick D.since D.failed_changes dev.old dev.new }
     ensures cause { HasCause (D.faults dev.old) (D.faults dev.new) (IsErrOf result ReplayError.DevFault) }

@@ -1,11 +1,12 @@
 // What is found again of a file from its recovery point.
-ghost use Rattle.std.specs.Prelude.{◌≡◌, ◌+◌, ◌-◌, ◌*◌, ◌/◌, ◌^◌, ◌<◌, ◌≤◌, ◌++◌, true, length, All, OnOk, IsErrOf, IsTrue};
+ghost use Rattle.std.specs.Prelude.{◌≡◌, ◌+◌, ◌-◌, ◌*◌, ◌/◌, ◌^◌, ◌<◌, ◌≤◌, ◌++◌, true, length, All, OnOk, IfErr, IsErrOf, IsTrue};
 ghost use Rattle.zone_image.specs.Counts.{HasCause};
 ghost use Rattle.zone_image.specs.Image.{is_valid, zone_bytes, zone_of, offset_of};
 ghost use Rattle.zone_image.specs.Infos.{info_at};
 ghost use Rattle.zone_image.specs.Reads.{OnlyReads};
 ghost use Rattle.log_model.specs.Frames.{extent_if_any, recovered_extents};
 ghost use Rattle.mount_replay.specs.FrameWalk.{frame_start_of};
+ghost use Rattle.mount_replay.specs.Payloads.{IsNoDamage};
 ghost use Rattle.mount_replay.specs.Rules.{is_recovery_point_in, is_recovered_in, IsWrittenExtent};
 
 use crate::error::ReplayError;
@@ -30,6 +31,7 @@ pub(crate) fn push_recovered<D: ZonedDevice>(
     requires same_geometry { geometry.now ≡ D.geometry dev.old }
     requires same_infos { infos.now ≡ D.infos dev.old }
     ensures found { OnOk result (D.tells → extents.new.items ≡ extents.old.items ++ recovered_extents (D.image dev.old) entry.now) }
+    ensures only { IfErr result IsNoDamage }
     ensures lie { OnOk result (All (IsWrittenExtent geometry.now infos.now) extents.old.items → All (IsWrittenExtent geometry.now infos.now) extents.new.items) }
     ensures device { OnlyReads D.known D.geometry D.infos D.tells D.image D.tick D.since D.failed_changes dev.old dev.new }
     ensures cause { HasCause (D.faults dev.old) (D.faults dev.new) (IsErrOf result ReplayError.DevFault) }

@@ -1,10 +1,9 @@
-use Rattle.std.proofs.Common.{◌≡◌, ℕ, ◌+◌, ◌≤◌, ◌++◌, [], ◌∷◌, take, get_or, sum_by, sym, ◌∙◌, ap, subst, arith}
+use Rattle.std.proofs.Common.{◌≡◌, ℕ, ◌+◌, ◌++◌, [], ◌∷◌, take, sum_by, sym, ◌∙◌, ap, subst, arith}
 use Rattle.std.specs.List.{All}
 use Rattle.std.proofs.lemmas.List.{take_more}
 use Rattle.record_model.specs.declared.types.Extent.{Extent}
 use Rattle.record_model.specs.declared.types.FileEntry.{FileEntry}
 use Rattle.log_model.specs.FileTable.{size_of}
-use Rattle.log_model.specs.Mounted.{all_extents}
 use Rattle.fs_model.specs.FsState.{touched}
 use Rattle.zone_alloc.specs.ZoneTableState.{IsInDataZone}
 use Rattle.mount_replay.specs.Filling.{Entered, marked_all}

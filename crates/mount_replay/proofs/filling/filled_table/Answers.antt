@@ -1,5 +1,4 @@
-use Rattle.std.proofs.Common.{◌≡◌, ℕ, ◌≤◌, replicate, sum_by, Option, None, refl, sym, ◌∙◌, arith, rules}
-use Rattle.record_model.specs.declared.types.Extent.{Extent}
+use Rattle.std.proofs.Common.{sum_by, refl, ◌∙◌, arith, rules}
 use Rattle.log_model.specs.FileTable.{size_of}
 use Rattle.log_model.specs.Mounted.{all_extents}
 use Rattle.fs_model.specs.FsState.{touched}
@@ -17,8 +16,12 @@ enter_files-requires-clause-marks c =
 pub enter_files-requires-clause-blocks : goal.enter_files-requires-clause-blocks
 enter_files-requires-clause-blocks c =
     let g = c.args.geometry.now in
-    omega (arith, none_live_in (λ z. z.live) (λ info. refl) g c.args.collect c.args.infos.items c.in_ok-zones.zones c.in_ok-zones.ensures,
-    touched_sum g (all_extents c.args.files.now) (block_positive g c.requires.possible.valid) c.requires.lie, c.requires.fits)
+    omega (
+      arith,
+      none_live_in (λ z. z.live) (λ info. refl) g c.args.collect c.args.infos.items c.in_ok-zones.zones c.in_ok-zones.ensures,
+      touched_sum g (all_extents c.args.files.now) (block_positive g c.requires.possible.valid) c.requires.lie,
+      c.requires.fits,
+    )
 
 pub enter_files-requires-clause-bytes : goal.enter_files-requires-clause-bytes
 enter_files-requires-clause-bytes c =

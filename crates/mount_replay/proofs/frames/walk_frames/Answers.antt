@@ -37,7 +37,7 @@ loop-frame-preserved g c =
       addresses_left c.loop-frame.start at n written block (c.args.from.start + (written - c.args.from.first) * block) step within steps c.loop-frame.invariant.3,
       next_place c.loop-frame.start step c.args.from.zone (zone_bytes shape) at n block c.loop-frame.invariant.4 steps,
       λ old. subst (All W) (sym c.in_ok-push.ensures) (All-append W c.loop-frame.extents.items (x ∷ []) (c.loop-frame.invariant.5 old)
-      (All-cons W x [] (frame_extent shape (D.infos dev) c.args.from.zone at n c.in-Some.frame.len c.loop-frame.start possible c.requires.is_data in_zones c.loop-frame.invariant.4 is.some is.holds (omega (arith, within, c.requires.same_written))) (All-nil W))),
+          (All-cons W x [] (frame_extent shape (D.infos dev) c.args.from.zone at n c.in-Some.frame.len c.loop-frame.start possible c.requires.is_data in_zones c.loop-frame.invariant.4 is.some is.holds (omega (arith, within, c.requires.same_written))) (All-nil W))),
       λ told.
           let blocks = (zone_at (D.image dev) c.args.from.zone).blocks in
           let found : frame_in block (drop at blocks) ≡ Some c.in-Some.frame =

@@ -1,7 +1,3 @@
-use Rattle.std.proofs.Common.{◌≡◌, ◌+◌, ◌*◌, ◌≤◌, sym, subst}
-use Rattle.zone_image.specs.Image.{zone_bytes}
-use Rattle.mount_replay.specs.declared.frames.FrameStart.{FrameStart}
-use Rattle.mount_replay.proofs.WrittenLaws.{point_place}
 use Rattle.mount_replay.proofs.RecoveryLaws.{address_bound, point_zone}
 use Rattle.mount_replay.proofs.recovered.frame_start.Goals as goal
 

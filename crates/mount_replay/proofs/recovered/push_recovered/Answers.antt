@@ -1,26 +1,17 @@
-use Rattle.std.proofs.Common.{◌≡◌, ℕ, ◌≤◌, ◌-◌, ◌*◌, ◌++◌, List, drop, sym, ◌∙◌, ap, subst, arith, append-nil}
+use Rattle.std.proofs.Common.{◌≡◌, ℕ, ◌-◌, ◌*◌, ◌++◌, List, drop, sym, ◌∙◌, ap, subst, arith, append-nil}
 use Rattle.std.specs.List.{All}
 use Rattle.std.proofs.lemmas.List.Elements.{All-append}
-use Rattle.zone_image.specs.Infos.{info_at, IsImage, IsPossible}
-use Rattle.zone_image.specs.declared.Geometry.{Geometry}
-use Rattle.zone_image.specs.declared.ZoneInfo.{ZoneInfo}
-use Rattle.zone_image.specs.Image.{Image, zone_at}
+use Rattle.zone_image.specs.Infos.{info_at}
+use Rattle.zone_image.specs.Image.{zone_at}
 use Rattle.zone_image.proofs.ReadLaws.{reads_nothing}
 use Rattle.record_model.specs.declared.types.Extent.{Extent}
 use Rattle.log_model.specs.Frames.{extent_if_any}
 use Rattle.mount_replay.specs.FrameWalk.{frames_from}
 use Rattle.mount_replay.specs.declared.frames.FrameStart.{FrameStart}
 use Rattle.mount_replay.specs.Rules.{IsWrittenExtent}
-use Rattle.mount_replay.proofs.WrittenLaws.{all_if_any, rest_extent}
+use Rattle.mount_replay.proofs.WrittenLaws.{possible_as, told_as, all_if_any, rest_extent}
 use Rattle.mount_replay.proofs.RecoveryLaws.{recovers_nothing, recovers_frames, recovers_rest, recovered_point, point_zone}
 use Rattle.mount_replay.proofs.recovered.push_recovered.Goals as goal
-
--- the image is one of this geometry and these numbers
-told_as : (g h : Geometry) (infos told : List ZoneInfo) (i : Image) → g ≡ h → infos ≡ told → IsImage h told i → IsImage g infos i
-told_as g h infos told i shape same image = subst (λ k. IsImage k infos i) (sym shape) (subst (λ l. IsImage h l i) (sym same) image)
-
-possible_as : (g h : Geometry) (infos told : List ZoneInfo) → g ≡ h → infos ≡ told → IsPossible h told → IsPossible g infos
-possible_as g h infos told shape same possible = subst (λ k. IsPossible k infos) (sym shape) (subst (λ l. IsPossible h l) (sym same) possible)
 
 pub returns-then-not-is_recovered-clause-found : goal.returns-then-not-is_recovered-clause-found
 returns-then-not-is_recovered-clause-found g c = λ told.
