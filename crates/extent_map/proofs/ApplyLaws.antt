@@ -9,8 +9,7 @@ use Rattle.record_model.specs.declared.types.Record.{Record}
 use Rattle.record_model.specs.declared.types.FileEntry.{FileEntry}
 use Rattle.record_model.specs.declared.types.Record.TheVariants.{Snapshot, Update, Deletion, End, Replace}
 use Rattle.log_model.specs.FileTable.{Table, file_of, with_entry, has_right_size, grown, sorted, size_of, after_record, unless_broken, set_entry, delete_from, take_names, is_among, repeats_id, repeats_name, is_named}
-use Rattle.log_model.specs.TableLaws.{IsTable, IsNamedRecord}
-use Rattle.log_model.proofs.TableKept.{record_keeps_table}
+use Rattle.log_model.specs.TableLaws.{IsNamedRecord}
 use Rattle.log_model.specs.declared.selection.DamageWhy.TheVariants as why
 use Rattle.log_model.specs.declared.selection.DamageWhy.{DamageWhy}
 use Rattle.fs_model.specs.FsState.{TableRow, mounted_row, row_of, greatest_id}
@@ -169,10 +168,6 @@ named_record (Update e) h = lt-ltb 0 (length e.names) h.named
 named_record (Deletion id name) h = tt
 named_record End h = tt
 named_record (Replace e) h = lt-ltb 0 (length e.names) h.named
-
--- a record makes a table of a table
-pub keeps_table : (r : Record) (old new : List TableRow) → InGrammar r → IsTable (recorded_of old) → IsMade (after_record r (recorded_of old)) new → IsTable (recorded_of new)
-keeps_table r old new grammar table made = record_keeps_table (recorded_of old) (recorded_of new) r table (named_record r grammar) made.made
 
 -- in rows that are made everything is recorded
 pub all_recorded : (after : Result Table DamageWhy) (rows : List TableRow) → IsMade after rows → All (λ r. r.unrecorded ≡ []) rows

@@ -18,7 +18,7 @@ past from id f (r ∷ rs) rise lt =
     ∙ ap (λ (qs : List TableRow). r ∷ qs) (past (r.entry.id + 1) id f rs rise.1 (omega (arith, rise.0)))
 
 -- an id behind others is not below where they rise from
-id_at : (from : ℕ) (rows : List TableRow) (k : ℕ) (d : TableRow) → IdsRise from (recorded_of rows) → k < length rows → from ≤ (get_or rows k d).entry.id
+pub id_at : (from : ℕ) (rows : List TableRow) (k : ℕ) (d : TableRow) → IdsRise from (recorded_of rows) → k < length rows → from ≤ (get_or rows k d).entry.id
 id_at from [] k d rise lt = absurd (omega arith)
 id_at from (r ∷ rs) zero d rise lt = rise.0
 id_at from (r ∷ rs) (suc k) d rise lt = let next = id_at (r.entry.id + 1) rs k d rise.1 (omega arith) in omega (arith, next, rise.0)

@@ -8,4 +8,5 @@ pub mod MoveLaws
 pub mod NameLaws
 pub mod NoteLaws
 pub mod PlaceLaws
+pub mod SettingLaws
 pub mod TakenLaws

@@ -1,7 +1,7 @@
 -- What a record makes of the rows of a table in which everything is recorded.
 use Rattle.std.specs.Prelude.{◌≡◌, ⊤, ℕ, suc, not, List, [], ◌∷◌, map, filter, Result, Ok, Err, nat_lt, ◌==◌, if◌then◌else◌}
 use Rattle.record_model.specs.declared.types.FileEntry.{FileEntry}
-use Rattle.std.specs.List.{list_all}
+use Rattle.std.specs.List.{AllByRecursion, list_all}
 use Rattle.record_model.specs.FieldDecoding.{◌>>=◌}
 use Rattle.log_model.specs.FileTable.{Table, unless_broken, has_right_size, repeats_id, repeats_name, sorted}
 use Rattle.log_model.specs.declared.selection.DamageWhy.{DamageWhy}
@@ -18,6 +18,14 @@ rows_of es = map mounted_row es
 -- the entries of other ids
 abbrev pub others_of : ℕ → Table → Table
 others_of id es = filter (λ f. not (f.id == id)) es
+
+-- everything is recorded of each file
+abbrev pub AreRecorded : List TableRow → Type 0
+AreRecorded rows = AllByRecursion (λ r. r.unrecorded ≡ []) rows
+
+-- of each file everything is shown, where everything is recorded
+abbrev pub AreSettled : List TableRow → Type 0
+AreSettled rows = AllByRecursion (λ r. r.unrecorded ≡ [] → r.shown ≡ r.entry.size) rows
 
 -- the table of a snapshot, or the lowest rule that it breaks
 abbrev pub snapshot_table : List FileEntry → Result Table DamageWhy

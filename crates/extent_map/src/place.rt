@@ -1,6 +1,6 @@
 //! Rows in the order of their ids.
 
-ghost use Rattle.std.specs.Prelude.{◌≡◌, ◌≤◌, ◌<◌, length, slice_index_or, OnOk, IsTrue};
+ghost use Rattle.std.specs.Prelude.{◌≡◌, ◌≤◌, ◌<◌, length, slice_index_or, vec_capacity, IsOk, OnOk, IsTrue};
 ghost use Rattle.fs_model.specs.FsState.{TableRow};
 ghost use Rattle.extent_map.specs.Applying.{with_row, place_of};
 
@@ -9,7 +9,8 @@ use std::alloc::AllocError;
 
 /// Puts a row in its place, which may be that of another row of its id.
 pub(crate) fn put_row(rows: &mut Vec<Row>, row: Row) -> Result<(), AllocError>
-    ensures { OnOk result (rows.new.items ≡ with_row row rows.old.items) }
+    ensures rows { OnOk result (rows.new.items ≡ with_row row rows.old.items) }
+    ensures fits { length rows.old.items < vec_capacity rows.old → IsOk result }
 {
     let at = place_of(rows, row.id());
     if has_id_at(rows, at, row.id()) {

@@ -1,7 +1,7 @@
 //! One file of the table.
 
-ghost use Rattle.std.specs.Prelude.{◌≡◌, ◌↔◌, ◌+◌, ◌^◌, ◌<◌, ◌++◌, [], ◌∷◌, false, length, vec_capacity, IsTrue, IfOk};
-ghost use Rattle.log_model.specs.FileTable.{is_among, is_named, size_of};
+ghost use Rattle.std.specs.Prelude.{◌≡◌, ◌↔◌, ◌+◌, ◌^◌, ◌<◌, ◌++◌, [], ◌∷◌, false, Some, length, vec_capacity, IsTrue, IfOk, OnOk, OnErr};
+ghost use Rattle.log_model.specs.FileTable.{grown, is_among, is_named, size_of};
 ghost use Rattle.log_model.specs.FileTree.{renamed};
 ghost use Rattle.fs_model.specs.FsState.{mounted_row};
 ghost use Rattle.fs_model.specs.FileSteps.{moved, note, shown_row};
@@ -74,6 +74,7 @@ impl Row {
     pub(crate) fn entry(&self) -> &FileEntry
         ensures value { result.now ≡ self.now.entry }
         ensures sound { IsSound result.now }
+        ensures settled { self.now.unrecorded ≡ [] → self.now.shown ≡ self.now.entry.size }
     {
         &self.entry
     }
@@ -157,6 +158,33 @@ impl Row {
         self.entry.extents = joined(room, self.entry.extents.items(), &self.unrecorded);
         self.unrecorded.clear();
         self.shown = self.entry.size;
+    }
+
+    /// Makes the file grow by what an update adds, with the update's names. After want of memory the row
+    /// is as before.
+    pub(crate) fn grow(&mut self, entry: &FileEntry, names: Names) -> Result<(), AllocError>
+        requires settled { self.old.unrecorded ≡ [] }
+        requires id { self.old.entry.id ≡ entry.now.id }
+        requires names { names ≡ entry.now.names }
+        requires sound { IsSound (grown (Some self.old.entry) entry.now) }
+        requires size { entry.now.size < 2 ^ 64 }
+        ensures grown { OnOk result (self.new ≡ mounted_row (grown (Some self.old.entry) entry.now)) }
+        ensures same { OnErr result (self.new ≡ self.old) }
+    {
+        let alloc = *self.unrecorded.allocator();
+        let extents = mem::replace(&mut self.entry.extents, Extents::from_vec(Vec::new(alloc)));
+        let mut extents = extents.into_vec();
+        let added = extents.extend_from_slice(entry.extents.items());
+        self.entry.extents = Extents::from_vec(extents);
+        added?;
+        self.entry.size = entry.size;
+        self.entry.hint = entry.hint;
+        self.entry.time = entry.time;
+        self.entry.active = entry.active;
+        self.entry.sparse = entry.sparse;
+        self.entry.names = names;
+        self.shown = entry.size;
+        Ok(())
     }
 
     /// Gives the file one more name, behind the others, in room that was made for it.

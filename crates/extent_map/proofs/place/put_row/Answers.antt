@@ -5,8 +5,8 @@ use Rattle.extent_map.specs.Applying.{place_of}
 use Rattle.extent_map.proofs.PlaceLaws.{put_there, put_new}
 use Rattle.extent_map.proofs.place.put_row.Goals as goal
 
-pub returns-then-has_id_at : goal.returns-then-has_id_at
-returns-then-has_id_at c =
+pub returns-then-has_id_at-clause-rows : goal.returns-then-has_id_at-clause-rows
+returns-then-has_id_at-clause-rows c =
     let rows = c.args.rows.now.items in
     let row = c.args.row in
     let at : c.place_of-at.result ≡ place_of row.entry.id rows =
@@ -15,8 +15,8 @@ returns-then-has_id_at c =
     let same = rw (c.deref-2.ensures.value, at, c.id-2.ensures) at (c.has_id_at.ensures.id row c.if-has_id_at.true) in
     ap (λ k. set rows k row) at ∙ put_there row row rows there same
 
-pub returns-in_ok-insert : goal.returns-in_ok-insert
-returns-in_ok-insert c =
+pub returns-in_ok-insert-clause-rows : goal.returns-in_ok-insert-clause-rows
+returns-in_ok-insert-clause-rows c =
     let rows = c.args.rows.now.items in
     let row = c.args.row in
     let at : c.place_of-at.result ≡ place_of row.entry.id rows =
