@@ -10,3 +10,5 @@ pub mod DeletionTables
 pub mod DeletionCrashes
 pub mod ReasonLaws
 pub mod WordLaws
+pub mod EndLaws
+pub mod SmallSelection

@@ -36,7 +36,7 @@ pub(crate) fn delete_name<'a, D: ZonedDevice>(
 ) -> Result<(), Refusal<'a>>
     ensures done { OnOk result (D.tells → IsDone path.now (D.image dev.old) (D.image dev.new)) }
     ensures named { OnOk result (is_name path.now ≡ true) }
-    ensures refused { IfErr result (λ refusal. (at : Word) → HasReason (Some (DeleteFile at path.now)) (Rose (D.faults dev.old) (D.faults dev.new)) ⊥ D.tells (D.absent dev.old) (D.image dev.old) refusal) }
+    ensures refused { IfErr result (λ refusal. (at : Word) → HasReason (Some (DeleteFile at path.now)) (Rose (D.faults dev.old) (D.faults dev.new)) (λ _. ⊥) D.tells (D.absent dev.old) (D.image dev.old) refusal) }
     ensures unwritten { IfErr result (λ refusal. IsUnwritten refusal (D.tells → D.image dev.new ≡ D.image dev.old)) }
     ensures any_moment { LeavesOnly D.tick D.since dev.old dev.new (λ j. IsCrash (D.image dev.old) j ⊎ IsDeletedIn path.now (D.image dev.old) j) }
 {
@@ -63,7 +63,7 @@ fn delete_from<'a, D: ZonedDevice>(
     requires ids { HaveIds opened.now.table.items }
     ensures done { OnOk result (D.tells → IsDone path.now (D.image dev.old) (D.image dev.new)) }
     ensures named { OnOk result (is_name path.now ≡ true) }
-    ensures refused { IfErr result (λ refusal. (at : Word) → HasReason (Some (DeleteFile at path.now)) (Rose (D.faults dev.old) (D.faults dev.new)) ⊥ D.tells ⊥ (D.image dev.old) refusal) }
+    ensures refused { IfErr result (λ refusal. (at : Word) → HasReason (Some (DeleteFile at path.now)) (Rose (D.faults dev.old) (D.faults dev.new)) (λ _. ⊥) D.tells ⊥ (D.image dev.old) refusal) }
     ensures unwritten { IfErr result (λ refusal. IsUnwritten refusal (D.tells → D.image dev.new ≡ D.image dev.old)) }
     ensures any_moment { LeavesOnly D.tick D.since dev.old dev.new (λ j. IsCrash (D.image dev.old) j ⊎ IsDeletedIn path.now (D.image dev.old) j) }
 {

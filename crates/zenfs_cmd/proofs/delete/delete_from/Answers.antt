@@ -16,7 +16,7 @@ use Rattle.zenfs_cmd.proofs.delete.delete_from.Goals as goal
 
 pub returns-in-Err-deletion_of-clause-refused : goal.returns-in-Err-deletion_of-clause-refused
 returns-in-Err-deletion_of-clause-refused g c = λ at.
-    name_refused at c.args.path.now c.args.opened.now.table.items _ _ _ _ (g.D.ZonedDevice.image c.args.dev.now) c.in-Err-deletion_of.refusal (λ none. none) c.requires.table
+    name_refused at c.args.path.now c.args.opened.now.table.items _ (λ _. ⊥) _ _ (g.D.ZonedDevice.image c.args.dev.now) c.in-Err-deletion_of.refusal (λ none. none) c.requires.table
     (λ told. sym (c.in-Ok-true.ensures.room told) ∙ c.in-Ok-true.field-0-test)
     (subst (λ files. IsNameRefused c.args.path.now files c.in-Err-deletion_of.refusal) c.deref.ensures.value c.in-Err-deletion_of.ensures.refused)
 

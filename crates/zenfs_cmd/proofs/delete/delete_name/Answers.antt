@@ -7,7 +7,7 @@ pub returns-clause-refused : goal.returns-clause-refused
 returns-clause-refused g c =
     let D = g.D.ZonedDevice in
     IfErr-weaker c.delete_from.result _ _ (λ refusal reason at.
-    reason_from (DeleteFile at c.args.path.now) _ _ _ _ _ _ _ (D.image c.open_image.new.dev) (D.image c.args.dev.now) refusal
+    reason_from (DeleteFile at c.args.path.now) _ _ (λ _. ⊥) (λ _. ⊥) _ _ _ (D.image c.open_image.new.dev) (D.image c.args.dev.now) refusal
     (rose_before (D.faults c.args.dev.now) (D.faults c.open_image.new.dev) (D.faults c.delete_from.new.dev) c.open_image.ensures.cause.never_falls)
     (λ none. none) (λ none. absurd none) (λ told none. c.in-Ok.ensures.there told none) (λ told. c.open_image.ensures.unchanged told) (reason at))
     c.delete_from.ensures.refused
