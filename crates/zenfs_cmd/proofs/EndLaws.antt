@@ -1,6 +1,6 @@
 -- A command against which nothing stands ends well, unless memory is wanting.
-use Rattle.std.proofs.Common.{◌≡◌, ℕ, ◌⊎◌, inl, inr, ⊎_elim, Bool, true, false, not, ◌&&◌, [], refl, ap, sym, ◌∙◌}
-use Rattle.std.specs.Prelude.{Option, Some, None, is_none}
+use Rattle.std.proofs.Common.{◌≡◌, ℕ, ⊎_elim, Bool, true, false, not, ◌&&◌, refl, ap}
+use Rattle.std.specs.Prelude.{Some, is_none}
 use Rattle.std.proofs.lemmas.Bool.{and_parts}
 use Rattle.zone_image.specs.Image.{Image, is_valid}
 use Rattle.log_model.specs.Format.{begins_in}

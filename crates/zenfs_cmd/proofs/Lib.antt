@@ -11,4 +11,5 @@ pub mod DeletionCrashes
 pub mod ReasonLaws
 pub mod WordLaws
 pub mod EndLaws
+pub mod AllowedLaws
 pub mod SmallSelection

@@ -17,7 +17,7 @@ use Rattle.zenfs_cmd.specs.declared.refusal.Refusal.{Refusal}
 use Rattle.zenfs_cmd.specs.declared.refusal.Refusal.TheVariants.{Words, DeviceFault, OutputFault, NoMemory, NotAnImage, ImageExists, BadGeometry, FsExists, OtherImage, BadName, NotFound}
 
 -- a deletion takes an image that has a table and room
-takes : (at name : Word) (i : Image) (es : Table) → small_table i ≡ Some es → has_free_blocks i ≡ true → takes_image (DeleteFile at name) i ≡ true
+pub takes : (at name : Word) (i : Image) (es : Table) → small_table i ≡ Some es → has_free_blocks i ≡ true → takes_image (DeleteFile at name) i ≡ true
 takes at name i es table room = and_from (is_some (small_table i)) (has_free_blocks i) (ap (λ o. is_some o) table) room
 
 -- a word that is no name is the first bad one
@@ -26,7 +26,7 @@ unfolding bad_name_of
 bad_word c name only none = ap first_bad_name only ∙ ap (λ b. cond b (first_bad_name []) (Some name)) none
 
 -- a word that is a name is no bad one
-good_word : (at name : Word) → is_name name ≡ true → bad_name_of (DeleteFile at name) ≡ None
+pub good_word : (at name : Word) → is_name name ≡ true → bad_name_of (DeleteFile at name) ≡ None
 unfolding bad_name_of
 good_word at name named = ap (λ b. cond b (first_bad_name []) (Some name)) named
 

@@ -1,5 +1,5 @@
 -- An image of files without bytes has a log that counts.
-use Rattle.std.proofs.Common.{◌≡◌, ◌≢◌, ℕ, zero, suc, ◌<◌, Bool, true, false, cond, max, ◌&&◌, List, [], ◌∷◌, length, refl, ap, sym, ◌∙◌, arith}
+use Rattle.std.proofs.Common.{◌≡◌, ◌≢◌, ℕ, zero, suc, ◌<◌, Bool, true, false, cond, max, ◌&&◌, List, [], ◌∷◌, length, refl, ap, ◌∙◌, arith}
 use Rattle.std.specs.Prelude.{Option, Some, None, Result, Ok, Err, nat_eq}
 use Rattle.std.specs.List.{list_all}
 use Rattle.std.proofs.lemmas.Bool.{and_parts, eqb-true}
@@ -18,7 +18,7 @@ use Rattle.log_model.specs.declared.selection.Refusal.TheVariants.{Differs}
 use Rattle.log_model.specs.FileTable.{Table}
 use Rattle.log_model.specs.LogScan.{Scan, ScanEnd, is_clean, scan}
 use Rattle.log_model.specs.LogScan.ScanEnd.{Clean, Torn, Bad}
-use Rattle.log_model.specs.LogSelection.{LogAt, add_log, chosen_of, decides, fits_device, is_snapshot, log_of_zone, log_with, newest, scans_of, select_among, select_log, selected_log, snapshot_in, undamaged}
+use Rattle.log_model.specs.LogSelection.{LogAt, add_log, chosen_of, decides, is_snapshot, log_of_zone, log_with, newest, scans_of, select_among, select_log, selected_log, snapshot_in, undamaged}
 use Rattle.log_roll.proofs.LoneLogs.{IsLone, lone, scans_lone, select_lone}
 use Rattle.zenfs_cmd.specs.SmallImage.{is_empty_zone, is_superblock, other_zones_empty, states_device}
 use Rattle.zenfs_cmd.specs.SmallTables.{is_bare_snapshot, is_deletion, is_small_log, small_table, table_of_payloads, table_of_scan}

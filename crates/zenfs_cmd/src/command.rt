@@ -75,6 +75,10 @@ pub fn run<D: ZonedDevice, O: Sink, E: Sink>(
         × IsUnwritten refusal (D.tells → D.image result.1 ≡ D.image dev)
         × ((Rose (E.faults err.old) (E.faults err.new) → ⊥) → E.tells → E.written err.new ≡ E.written err.old ++ refusal_text refusal) }
 
+    // What ends well had nothing against it.
+    ensures allowed { result.0 ≡ status.Ok → (c : line.Command) → command_in (map string_bytes words.now) ≡ Some c
+        → D.tells → CanBeDone (D.absent dev) (D.image dev) c }
+
     // Words against which nothing stands, and no risen count, end well unless memory is wanting.
     ensures complete { (c : line.Command) → command_in (map string_bytes words.now) ≡ Some c → D.tells → CanBeDone (D.absent dev) (D.image dev) c
         → (Rose (D.faults dev) (D.faults result.1) → ⊥) → (Rose (O.faults out.old) (O.faults out.new) → ⊥)
@@ -107,6 +111,8 @@ fn obey<'a, D: ZonedDevice, O: Sink>(
         → OnOk result (Leaves D.known D.geometry D.infos D.tells D.image (out.new ≡ out.old) random dev.old dev.new c) }
     ensures printed { (c : line.Command) → command_in (map string_bytes words.now) ≡ Some c
         → OnOk result (D.tells → O.tells → IsPrinted (output_text c (D.image dev.old)) (O.written out.old) (O.written out.new)) }
+    ensures allowed { (c : line.Command) → command_in (map string_bytes words.now) ≡ Some c
+        → OnOk result (D.tells → CanBeDone (D.absent dev.old) (D.image dev.old) c) }
     ensures some { OnOk result (command_in (map string_bytes words.now) ≡ None → ⊥) }
     ensures refused { IfErr result (HasReason (command_in (map string_bytes words.now))
         (Rose (D.faults dev.old) (D.faults dev.new))

@@ -8,7 +8,7 @@ ghost use Rattle.command_model.specs.CommandLine.Command.{ShowInfo};
 ghost use Rattle.command_model.specs.Options.{Word};
 ghost use Rattle.zenfs_cmd.specs.Leaving.{Leaves};
 ghost use Rattle.zenfs_cmd.specs.Printing.{IsCutShort, IsPrinted, IsSilent, shown_superblock, shown_text};
-ghost use Rattle.zenfs_cmd.specs.Reasons.{HasReason};
+ghost use Rattle.zenfs_cmd.specs.Reasons.{CanBeDone, HasReason};
 ghost use Rattle.zenfs_cmd.specs.SmallTables.{small_table};
 
 use crate::opened::{OpenError, Opened, open_image};
@@ -27,6 +27,7 @@ pub(crate) fn show_info<'a, D: ZonedDevice, O: Sink>(
     out: &mut O,
 ) -> Result<(), Refusal<'a>>
     ensures printed { OnOk result (D.tells → O.tells → IsPrinted (shown_text (D.image dev.old)) (O.written out.old) (O.written out.new)) }
+    ensures allowed { (at : Word) → OnOk result (D.tells → CanBeDone (D.absent dev.old) (D.image dev.old) (ShowInfo at)) }
     ensures refused { (at : Word) (random : ℕ) → IfErr result (HasReason (Some (ShowInfo at))
         (Rose (D.faults dev.old) (D.faults dev.new))
         (IsCutShort (Rose (O.faults out.old) (O.faults out.new)) (Leaves D.known D.geometry D.infos D.tells D.image (out.new ≡ out.old) random dev.old dev.new)
@@ -49,6 +50,7 @@ pub(crate) fn show_info<'a, D: ZonedDevice, O: Sink>(
 // The lines on the superblock.
 fn text_of<'a, D: ZonedDevice>(alloc: Global, dev: &mut D) -> Result<Payload, Refusal<'a>>
     ensures text { IfOk result (λ text. D.tells → shown_text (D.image dev.old) ≡ Some text) }
+    ensures allowed { (at : Word) → OnOk result (D.tells → CanBeDone (D.absent dev.old) (D.image dev.old) (ShowInfo at)) }
     ensures refused { (at : Word) → IfErr result (HasReason (Some (ShowInfo at))
         (Rose (D.faults dev.old) (D.faults dev.new)) (λ _. ⊥) D.tells (D.absent dev.old) (D.image dev.old)) }
     ensures unchanged { D.tells → D.image dev.new ≡ D.image dev.old }

@@ -1,15 +1,16 @@
 // The command `list`.
-ghost use Rattle.std.specs.Prelude.{◌≡◌, ℕ, Some, OnOk, IfOk, IfErr};
+ghost use Rattle.std.specs.Prelude.{◌≡◌, ℕ, true, Some, OnOk, IfOk, IfErr, IfSome};
 ghost use Rattle.std.specs.Option.{option_copied};
 ghost use Rattle.zone_image.specs.Counts.{Rose};
 ghost use Rattle.zone_image.specs.Image.{IsCrash};
 ghost use Rattle.zone_image.specs.Moments.{LeavesOnly};
+ghost use Rattle.record_model.specs.Name.{is_name};
 ghost use Rattle.command_model.specs.CommandLine.Command.{ListFiles};
 ghost use Rattle.command_model.specs.Options.{Word};
 ghost use Rattle.command_model.specs.ReportTexts.{list_text};
 ghost use Rattle.zenfs_cmd.specs.Leaving.{Leaves};
 ghost use Rattle.zenfs_cmd.specs.Printing.{IsCutShort, IsPrinted, IsSilent, listed_text};
-ghost use Rattle.zenfs_cmd.specs.Reasons.{HasReason, IsPrefixRefused};
+ghost use Rattle.zenfs_cmd.specs.Reasons.{CanBeDone, HasReason, IsPrefixRefused};
 
 use crate::opened::{OpenError, open_image};
 use crate::refusal::Refusal;
@@ -26,6 +27,7 @@ pub(crate) fn list_files<'a, D: ZonedDevice, O: Sink>(
     prefix: Option<&'a str>,
 ) -> Result<(), Refusal<'a>>
     ensures printed { OnOk result (D.tells → O.tells → IsPrinted (listed_text (option_copied prefix.entry) (D.image dev.old)) (O.written out.old) (O.written out.new)) }
+    ensures allowed { (at : Word) → OnOk result (D.tells → CanBeDone (D.absent dev.old) (D.image dev.old) (ListFiles at (option_copied prefix.entry))) }
     ensures refused { (at : Word) (random : ℕ) → IfErr result (HasReason (Some (ListFiles at (option_copied prefix.entry)))
         (Rose (D.faults dev.old) (D.faults dev.new))
         (IsCutShort (Rose (O.faults out.old) (O.faults out.new)) (Leaves D.known D.geometry D.infos D.tells D.image (out.new ≡ out.old) random dev.old dev.new)
@@ -52,6 +54,7 @@ fn text_of<'a, D: ZonedDevice>(
     prefix: Option<&'a str>,
 ) -> Result<Payload, Refusal<'a>>
     ensures text { IfOk result (λ text. D.tells → listed_text (option_copied prefix.entry) (D.image dev.old) ≡ Some text) }
+    ensures allowed { (at : Word) → OnOk result (D.tells → CanBeDone (D.absent dev.old) (D.image dev.old) (ListFiles at (option_copied prefix.entry))) }
     ensures refused { (at : Word) → IfErr result (HasReason (Some (ListFiles at (option_copied prefix.entry)))
         (Rose (D.faults dev.old) (D.faults dev.new)) (λ _. ⊥) D.tells (D.absent dev.old) (D.image dev.old)) }
     ensures unchanged { D.tells → D.image dev.new ≡ D.image dev.old }
@@ -74,6 +77,7 @@ fn text_under<'a>(
     prefix: Option<&'a str>,
 ) -> Result<Payload, Refusal<'a>>
     ensures text { IfOk result (λ text. text ≡ list_text table.now (option_copied prefix.entry)) }
+    ensures named { OnOk result (IfSome (option_copied prefix.entry) (λ name. is_name name ≡ true)) }
     ensures refused { IfErr result (IsPrefixRefused (option_copied prefix.entry)) }
 {
     match prefix {

@@ -6,7 +6,7 @@ ghost use Rattle.command_model.specs.CommandLine.Command.{MakeImage, MakeFs};
 ghost use Rattle.command_model.specs.Options.{Word};
 ghost use Rattle.zenfs_cmd.specs.Leaving.{Leaves};
 ghost use Rattle.zenfs_cmd.specs.Printing.{IsCutShort, IsPrinted, IsSilent, output_text};
-ghost use Rattle.zenfs_cmd.specs.Reasons.{HasReason, IsUnwritten};
+ghost use Rattle.zenfs_cmd.specs.Reasons.{CanBeDone, HasReason, IsUnwritten};
 
 use crate::refusal::Refusal;
 use crate::words::FsOptions;
@@ -26,6 +26,7 @@ pub(crate) fn make_image<'a, D: ZonedDevice, O: Sink>(
     force: bool,
 ) -> Result<(), Refusal<'a>>
     ensures left { (at : Word) (random : ℕ) → OnOk result (Leaves D.known D.geometry D.infos D.tells D.image (out.new ≡ out.old) random dev.old dev.new (MakeImage at geometry.now force)) }
+    ensures allowed { (at : Word) → OnOk result (D.tells → CanBeDone (D.absent dev.old) (D.image dev.old) (MakeImage at geometry.now force)) }
     ensures printed { (at : Word) → OnOk result (D.tells → O.tells → IsPrinted (output_text (MakeImage at geometry.now force) (D.image dev.old)) (O.written out.old) (O.written out.new)) }
     ensures refused { (at : Word) (random : ℕ) → IfErr result (HasReason (Some (MakeImage at geometry.now force))
         (Rose (D.faults dev.old) (D.faults dev.new))
@@ -55,6 +56,8 @@ pub(crate) fn make_file_system<'a, D: ZonedDevice, O: Sink>(
 ) -> Result<(), Refusal<'a>>
     requires { IsTrue (is_aux_path options.now.aux_path.now) }
     ensures left { (at : Word) → OnOk result (Leaves D.known D.geometry D.infos D.tells D.image (out.new ≡ out.old) random dev.old dev.new
+        (MakeFs at options.now.aux_path.now options.now.finish_threshold options.now.collect options.now.force)) }
+    ensures allowed { (at : Word) → OnOk result (D.tells → CanBeDone (D.absent dev.old) (D.image dev.old)
         (MakeFs at options.now.aux_path.now options.now.finish_threshold options.now.collect options.now.force)) }
     ensures printed { (at : Word) → OnOk result (D.tells → O.tells → IsPrinted
         (output_text (MakeFs at options.now.aux_path.now options.now.finish_threshold options.now.collect options.now.force) (D.image dev.old))

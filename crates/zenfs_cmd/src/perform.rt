@@ -5,7 +5,7 @@ ghost use Rattle.zone_image.specs.Moments.{LeavesOnly};
 ghost use Rattle.zenfs_cmd.specs.Deletion.{MayLeave};
 ghost use Rattle.zenfs_cmd.specs.Leaving.{Leaves};
 ghost use Rattle.zenfs_cmd.specs.Printing.{IsCutShort, IsPrinted, IsSilent, output_text};
-ghost use Rattle.zenfs_cmd.specs.Reasons.{HasReason, IsUnwritten};
+ghost use Rattle.zenfs_cmd.specs.Reasons.{CanBeDone, HasReason, IsUnwritten};
 ghost use Rattle.zenfs_cmd.specs.Words.{HasAuxPath, changes, makes, meaning_of};
 
 use crate::delete::delete_name;
@@ -28,6 +28,7 @@ pub(crate) fn perform<'a, D: ZonedDevice, O: Sink>(
 ) -> Result<(), Refusal<'a>>
     requires { HasAuxPath (meaning_of command) }
     ensures left { OnOk result (Leaves D.known D.geometry D.infos D.tells D.image (out.new ≡ out.old) random dev.old dev.new (meaning_of command.entry)) }
+    ensures allowed { OnOk result (D.tells → CanBeDone (D.absent dev.old) (D.image dev.old) (meaning_of command.entry)) }
     ensures printed { OnOk result (D.tells → O.tells → IsPrinted (output_text (meaning_of command.entry) (D.image dev.old)) (O.written out.old) (O.written out.new)) }
     ensures refused { IfErr result (HasReason (Some (meaning_of command.entry))
         (Rose (D.faults dev.old) (D.faults dev.new))

@@ -44,3 +44,18 @@ returns-in-Delete-clause-refused g c =
     (IsCutShort (Rose (O.faults out) (O.faults out)) (Leaves D.known D.geometry D.infos D.tells D.image (out ≡ out) c.args.random dev left) (D.tells × O.tells) (O.written out) (O.written out) (D.image dev))
     D.tells (D.absent dev) (D.image dev) refusal (λ none. absurd none) (reason c.in-Delete.image.now))
     c.delete_name.ensures.refused)
+
+pub returns-in-MakeImage-clause-allowed : goal.returns-in-MakeImage-clause-allowed
+returns-in-MakeImage-clause-allowed g c = rw c.in-MakeImage.is (c.make_image.ensures.allowed c.in-MakeImage.image.now)
+
+pub returns-in-MakeFs-clause-allowed : goal.returns-in-MakeFs-clause-allowed
+returns-in-MakeFs-clause-allowed g c = rw c.in-MakeFs.is (c.make_file_system.ensures.allowed c.in-MakeFs.image.now)
+
+pub returns-in-List-clause-allowed : goal.returns-in-List-clause-allowed
+returns-in-List-clause-allowed g c = rw c.in-List.is (c.list_files.ensures.allowed c.in-List.image.now)
+
+pub returns-in-Info-clause-allowed : goal.returns-in-Info-clause-allowed
+returns-in-Info-clause-allowed g c = rw c.in-Info.is (c.show_info.ensures.allowed c.in-Info.image.now)
+
+pub returns-in-Delete-clause-allowed : goal.returns-in-Delete-clause-allowed
+returns-in-Delete-clause-allowed g c = rw c.in-Delete.is (c.delete_name.ensures.allowed c.in-Delete.image.now)
