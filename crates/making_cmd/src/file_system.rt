@@ -32,6 +32,7 @@ pub fn make_fs<D: ZonedDevice, O: Sink>(
     ensures made { OnOk result (HasNewFs D.known D.geometry D.infos D.tells D.image (superblock_for settings.now random) dev.old dev.new) }
     ensures said { OnOk result (O.tells → O.written out.new ≡ O.written out.old ++ made_fs_text (D.geometry dev.new)) }
     ensures may_replace { OnOk result (IsTrue force ⊎ (D.tells → begins_in (D.image dev.old) ≡ None)) }
+    ensures present { OnOk result (D.tells → D.absent dev.old → ⊥) }
 
     ensures refused { IfErr result (HasFsReason
         (Rose (D.faults dev.old) (D.faults dev.new))

@@ -2,12 +2,14 @@
 #![tactic(auto)]
 
 mod images;
+mod random;
 #[cfg(test)]
 mod tests;
 mod words;
 
 use fs_report::{OutSink, Status};
 use images::zones_of;
+use random::random_bits;
 use std::process::ExitCode;
 use words::words_of;
 
@@ -27,6 +29,17 @@ fn answer(rt: HostRuntime) -> Status {
         Ok(zones) => zones,
         Err(refusal) => return zenfs_cmd::refuse(&mut err, refusal),
     };
-    let (status, _) = zenfs_cmd::run(rt.alloc(), words.as_slice(), zones, &mut out, &mut err);
+    let random = match random_bits(rt) {
+        Ok(random) => random,
+        Err(refusal) => return zenfs_cmd::refuse(&mut err, refusal),
+    };
+    let (status, _) = zenfs_cmd::run(
+        rt.alloc(),
+        words.as_slice(),
+        zones,
+        &mut out,
+        &mut err,
+        random,
+    );
     status
 }

@@ -67,7 +67,7 @@ fn said(rt: HostRuntime, words: &[&str]) -> Result<(Status, Vec<u8>, Vec<u8>), F
     let zones = zones_of(rt, given.as_slice()).map_err(|_| "no memory")?;
     let mut out = MemSink::new(alloc, 100, Vec::new(alloc))?;
     let mut err = MemSink::new(alloc, 100, Vec::new(alloc))?;
-    let (status, _) = run(alloc, given.as_slice(), zones, &mut out, &mut err);
+    let (status, _) = run(alloc, given.as_slice(), zones, &mut out, &mut err, 0);
     Ok((
         status,
         out.bytes().to_vec(alloc)?,
@@ -123,6 +123,37 @@ fn a_name_that_is_deleted_in_an_image_file_is_listed_no_more(rt: HostRuntime) ->
     let (status, _, err) = said(rt, &["delete", option, "--path=a.txt"])?;
     assert_eq!(rt; status, Status::Refused);
     assert_eq!(rt; err.as_slice(), b"zenfs: a.txt: not found\n".as_slice());
+    fs::remove_file(&rt, path)?;
+    Ok(())
+}
+
+#[test]
+fn an_image_file_is_made_and_gets_a_file_system(rt: HostRuntime) -> Result<(), Fail> {
+    let path = "zenfs_making_test.img";
+    let image = "--image=zenfs_making_test.img";
+    let _ = fs::remove_file(&rt, path);
+    let shape = [
+        "mkimage",
+        image,
+        "--block=512",
+        "--zone_blocks=16",
+        "--capacity=16",
+        "--zones=32",
+        "--active=6",
+    ];
+    let (status, out, err) = said(rt, &shape)?;
+    assert_eq!(rt; status, Status::Ok);
+    let made = b"image created: 32 zones of 8192 bytes\n";
+    assert_eq!(rt; out.as_slice(), made.as_slice());
+    assert_eq!(rt; err.len(), 0);
+    assert_eq!(rt; fs::read(&rt, path)?.len(), 270_336);
+    let (status, out, _) = said(rt, &["mkfs", image, "--aux_path=/aux"])?;
+    assert_eq!(rt; status, Status::Ok);
+    let created = b"ZenFS file system created. Free space: 237568 bytes\n";
+    assert_eq!(rt; out.as_slice(), created.as_slice());
+    let (status, out, _) = listed(rt, image)?;
+    assert_eq!(rt; status, Status::Ok);
+    assert_eq!(rt; out.len(), 0);
     fs::remove_file(&rt, path)?;
     Ok(())
 }

@@ -10,3 +10,6 @@ pub mod DeletionTables
 pub mod DeletionCrashes
 pub mod ReasonLaws
 pub mod WordLaws
+pub mod EndLaws
+pub mod AllowedLaws
+pub mod SmallSelection

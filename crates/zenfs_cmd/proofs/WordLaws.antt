@@ -1,142 +1,51 @@
--- The words and the deletion in the model.
-use Rattle.std.proofs.Common.{◌≡◌, ℕ, ◌⊎◌, inl, inr, ⊎_elim, arith, Bool, true, false, cond, List, [], ◌∷◌, ◌++◌, length, take, drop, refl, ap, sym, ◌∙◌}
-use Rattle.std.specs.Prelude.{◌==◌, Option, Some, None, codes, nat_eq}
-use Rattle.std.specs.List.{starts_with}
-use Rattle.std.specs.Str.{bytes_eq}
-use Rattle.std.proofs.lemmas.Bool.{eqb-true}
-use Rattle.std.proofs.lemmas.List.{take-append-drop}
-use Rattle.std.proofs.lemmas.Slice.Eq.{bytes_eq-Decides}
+-- What the words of a command give.
+use Rattle.std.proofs.Common.{◌≡◌, Bool, true, false, List, [], ◌∷◌, refl}
+use Rattle.std.specs.Prelude.{Option, Some, None, IfSome, codes}
 use Rattle.log_model.specs.FileTree.{apply}
-use Rattle.log_model.proofs.SelectionLaws.{some_is}
 use Rattle.log_model.proofs.TableLaws.{tree_without}
-use Rattle.command_model.specs.CommandLine.{Command, command}
-use Rattle.command_model.specs.CommandLine.Command.{ListFiles, DeleteFile}
-use Rattle.command_model.specs.Options.{Word, some_value}
-use Rattle.zenfs_cmd.specs.Laws.{DeletionUnlinks, WordsAreCommands}
-use Rattle.zenfs_cmd.specs.Words.{delete_command, delete_in, deletion_in, image_value, list_command, list_in, or_else, path_value, two_options}
+use Rattle.log_model.specs.Format.{is_aux_path}
+use Rattle.command_model.specs.CommandLine as line
+use Rattle.command_model.specs.CommandLine.{Verb, command, command_with, geometry_in, path, shape_of, src_file, dst_file, threshold_in, verb_of, image}
+use Rattle.command_model.specs.Options.{Word, Setting, ◌>>=◌, only_if, value_in, settings_of}
+use Rattle.zenfs_cmd.specs.Laws.{DeletionUnlinks}
+use Rattle.zenfs_cmd.specs.Words.{HasAuxPath}
 
 pub deletion_unlinks : DeletionUnlinks
 unfolding apply
 deletion_unlinks i name es = tree_without i name es
 
--- a value that is there only where a test holds
-held : {A : Type 0} (b : Bool) (o : Option A) (x : A) → cond b o None ≡ Some x → (b ≡ true) × (o ≡ Some x)
-held true o x is = (refl, is)
-held false o x is = cc
+-- what holds of each value that a step may give
+then : {A B : Type 0} (P : B → Type 0) (o : Option A) (f : A → Option B) → ((x : A) → IfSome (f x) P) → IfSome (o >>= f) P
+then P None f each = tt
+then P (Some x) f each = each x
 
--- a word that begins with others
-begins : (start w : Word) → starts_with nat_eq w start ≡ true → w ≡ start ++ drop (length start) w
-begins start w h =
-    sym (take-append-drop (length start) w) ∙ ap (λ (front : Word). front ++ drop (length start) w) (sym ((bytes_eq-Decides start (take (length start) w)).0 h))
+-- the same where the value passed a test
+then_if : {A B : Type 0} (P : B → Type 0) (b : Bool) (x : A) (f : A → Option B) → (b ≡ true → IfSome (f x) P) → IfSome (only_if b x >>= f) P
+then_if P true x f each = each refl
+then_if P false x f each = tt
 
--- a value is a byte and further ones
-record HasValue (start w at : Word) : Type 0 where
-  pub first : ℕ
-  pub others : Word
-  pub value : first ∷ others ≡ at
-  pub word : w ≡ start ++ first ∷ others
+-- the auxiliary path of a command keeps its rule
+kept_with : (verb : Verb) (ss : List Setting) → IfSome (command_with verb ss) HasAuxPath
+kept_with line.Mkimage ss = then HasAuxPath (value_in image ss) _ (λ at. then HasAuxPath (geometry_in ss) _ (λ g. tt))
+kept_with line.Mkfs ss =
+    then HasAuxPath (value_in image ss) _ (λ at.
+    then HasAuxPath (value_in (codes "--aux_path") ss) _ (λ aux.
+    then_if HasAuxPath (is_aux_path aux) aux _ (λ rule.
+    then HasAuxPath (threshold_in (value_in (codes "--finish_threshold") ss)) _ (λ threshold. rule))))
+kept_with line.List_ ss = then HasAuxPath (value_in image ss) _ (λ at. tt)
+kept_with line.Df ss = then HasAuxPath (value_in image ss) _ (λ at. tt)
+kept_with line.Dump_ ss = then HasAuxPath (value_in image ss) _ (λ at. tt)
+kept_with line.Info ss = then HasAuxPath (value_in image ss) _ (λ at. tt)
+kept_with line.Backup_ ss = then HasAuxPath (value_in image ss) _ (λ at. then HasAuxPath (value_in path ss) _ (λ dir. tt))
+kept_with line.Restore_ ss = then HasAuxPath (value_in image ss) _ (λ at. then HasAuxPath (value_in path ss) _ (λ dir. tt))
+kept_with line.Link_ ss =
+    then HasAuxPath (value_in image ss) _ (λ at. then HasAuxPath (value_in src_file ss) _ (λ old. then HasAuxPath (value_in dst_file ss) _ (λ new. tt)))
+kept_with line.Rename_ ss =
+    then HasAuxPath (value_in image ss) _ (λ at. then HasAuxPath (value_in src_file ss) _ (λ old. then HasAuxPath (value_in dst_file ss) _ (λ new. tt)))
+kept_with line.Delete_ ss = then HasAuxPath (value_in image ss) _ (λ at. then HasAuxPath (value_in path ss) _ (λ name. tt))
 
-value_is : (start w rest at : Word) → w ≡ start ++ rest → some_value rest ≡ Some at → HasValue start w at
-value_is start w [] at is some = cc
-value_is start w (b ∷ bs) at is some = record { first = b; others = bs; value = some_is some; word = is }
-
-image_is : (w at : Word) → image_value w ≡ Some at → HasValue (codes "--image=") w at
-image_is w at h =
-    let parts = held (starts_with nat_eq w (codes "--image=")) (some_value (drop 8 w)) at h in
-    value_is (codes "--image=") w (drop 8 w) at (begins (codes "--image=") w parts.0) parts.1
-
-path_is : (w name : Word) → path_value w ≡ Some name → HasValue (codes "--path=") w name
-path_is w name h =
-    let parts = held (starts_with nat_eq w (codes "--path=")) (some_value (drop 7 w)) name h in
-    value_is (codes "--path=") w (drop 7 w) name (begins (codes "--path=") w parts.0) parts.1
-
--- the words of a list
-list_words : (b : ℕ) (bs : Word) → command (codes "list" ∷ (codes "--image=" ++ b ∷ bs) ∷ []) ≡ Some (ListFiles (b ∷ bs) None)
+pub aux_path_kept : (words : List Word) → IfSome (command words) HasAuxPath
 unfolding command
-list_words b bs = refl
-
--- the words of a deletion, in either order
-delete_words : (b d : ℕ) (bs ds : Word) → command (codes "delete" ∷ (codes "--image=" ++ b ∷ bs) ∷ (codes "--path=" ++ d ∷ ds) ∷ []) ≡ Some (DeleteFile (b ∷ bs) (d ∷ ds))
-unfolding command
-delete_words b d bs ds = refl
-
-turned_words : (b d : ℕ) (bs ds : Word) → command (codes "delete" ∷ (codes "--path=" ++ d ∷ ds) ∷ (codes "--image=" ++ b ∷ bs) ∷ []) ≡ Some (DeleteFile (b ∷ bs) (d ∷ ds))
-unfolding command
-turned_words b d bs ds = refl
-
--- one command or the other
-one_of : (o p : Option Command) (c : Command) → or_else o p ≡ Some c → (o ≡ Some c) ⊎ (p ≡ Some c)
-one_of None p c is = inr is
-one_of (Some d) p c is = inl is
-
--- a list that was made
-list_made : (o : Option Word) (c : Command) → list_command o ≡ Some c → (at : Word) × (o ≡ Some at) × (ListFiles at None ≡ c)
-list_made None c is = cc
-list_made (Some at) c is = (at, refl, some_is is)
-
--- a deletion that was made
-delete_made : (o p : Option Word) (c : Command) → delete_command o p ≡ Some c → (at name : Word) × (o ≡ Some at) × (p ≡ Some name) × (DeleteFile at name ≡ c)
-delete_made None p c is = cc
-delete_made (Some at) None c is = cc
-delete_made (Some at) (Some name) c is = (at, name, refl, refl, some_is is)
-
--- a list
-list_law : (words : List Word) (c : Command) → list_in words ≡ Some c → command words ≡ Some c
-list_law [] c is = cc
-list_law (verb ∷ []) c is = cc
-list_law (verb ∷ option ∷ []) c is =
-    let parts = held (bytes_eq verb (codes "list")) (list_command (image_value option)) c is in
-    let made = list_made (image_value option) c parts.1 in
-    let image = image_is option made.0 made.1 in
-    ap (λ v. command (v ∷ option ∷ [])) ((bytes_eq-Decides verb (codes "list")).0 parts.0)
-    ∙ (ap (λ w. command (codes "list" ∷ w ∷ [])) image.word
-    ∙ (list_words image.first image.others
-    ∙ (ap (λ at. Some (ListFiles at None)) image.value ∙ ap (λ d. Some d) made.2)))
-list_law (verb ∷ first ∷ second ∷ others) c is = cc
-
--- a deletion with the image before the name
-image_first : (first second : Word) (c : Command) → delete_command (image_value first) (path_value second) ≡ Some c → command (codes "delete" ∷ first ∷ second ∷ []) ≡ Some c
-image_first first second c is =
-    let made = delete_made (image_value first) (path_value second) c is in
-    let image = image_is first made.0 made.2 in
-    let path = path_is second made.1 made.3 in
-    ap (λ w. command (codes "delete" ∷ w ∷ second ∷ [])) image.word
-    ∙ (ap (λ w. command (codes "delete" ∷ (codes "--image=" ++ image.first ∷ image.others) ∷ w ∷ [])) path.word
-    ∙ (delete_words image.first path.first image.others path.others
-    ∙ (ap (λ at. Some (DeleteFile at (path.first ∷ path.others))) image.value ∙ (ap (λ name. Some (DeleteFile made.0 name)) path.value ∙ ap (λ d. Some d) made.4))))
-
--- a deletion with the name before the image
-name_first : (first second : Word) (c : Command) → delete_command (image_value second) (path_value first) ≡ Some c → command (codes "delete" ∷ first ∷ second ∷ []) ≡ Some c
-name_first first second c is =
-    let made = delete_made (image_value second) (path_value first) c is in
-    let image = image_is second made.0 made.2 in
-    let path = path_is first made.1 made.3 in
-    ap (λ w. command (codes "delete" ∷ w ∷ second ∷ [])) path.word
-    ∙ (ap (λ w. command (codes "delete" ∷ (codes "--path=" ++ path.first ∷ path.others) ∷ w ∷ [])) image.word
-    ∙ (turned_words image.first path.first image.others path.others
-    ∙ (ap (λ at. Some (DeleteFile at (path.first ∷ path.others))) image.value ∙ (ap (λ name. Some (DeleteFile made.0 name)) path.value ∙ ap (λ d. Some d) made.4))))
-
--- two options and no more
-options_law : (first second : Word) (others : List Word) (c : Command) → two_options (first ∷ second ∷ others) ≡ Some c → command (codes "delete" ∷ first ∷ second ∷ others) ≡ Some c
-options_law first second [] c is = ⊎_elim
-    (λ here. image_first first second c here)
-    (λ there. name_first first second c there)
-    (one_of (delete_command (image_value first) (path_value second)) (delete_command (image_value second) (path_value first)) c is)
-options_law first second (w ∷ ws) c is =
-    let parts = held (length (w ∷ ws) == 0) (deletion_in first second) c is in
-    absurd (omega (arith, eqb-true (length (w ∷ ws)) 0 parts.0))
-
--- a deletion
-delete_law : (words : List Word) (c : Command) → delete_in words ≡ Some c → command words ≡ Some c
-delete_law [] c is = cc
-delete_law (verb ∷ options) c is =
-    let parts = held (bytes_eq verb (codes "delete")) (two_options options) c is in
-    ap (λ v. command (v ∷ options)) ((bytes_eq-Decides verb (codes "delete")).0 parts.0) ∙ behind options parts.1
-  where
-    behind : (ws : List Word) → two_options ws ≡ Some c → command (codes "delete" ∷ ws) ≡ Some c
-    behind [] none = cc
-    behind (w ∷ []) none = cc
-    behind (first ∷ second ∷ others) two = options_law first second others c two
-
-pub words_are_commands : WordsAreCommands
-words_are_commands words c is = ⊎_elim (λ listed. list_law words c listed) (λ deleted. delete_law words c deleted) (one_of (list_in words) (delete_in words) c is)
+aux_path_kept [] = tt
+aux_path_kept (w ∷ ws) =
+    then HasAuxPath (verb_of w) _ (λ verb. then HasAuxPath (settings_of (shape_of verb) ws) _ (λ settings. kept_with verb settings))

@@ -6,5 +6,6 @@ pub mod Logs
 pub mod Deletion
 pub mod Reasons
 pub mod Refusals
-pub mod Listing
+pub mod Printing
+pub mod Leaving
 pub mod Laws

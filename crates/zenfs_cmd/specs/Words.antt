@@ -1,70 +1,50 @@
--- The words that are a command.
-use Rattle.std.specs.Prelude.{◌==◌, Bool, true, false, List, [], ◌∷◌, length, drop, codes, nat_eq, Option, Some, None, option_map, if◌then◌else◌}
-use Rattle.std.specs.List.{starts_with}
-use Rattle.std.specs.Str.{bytes_eq}
-use Rattle.command_model.specs.Options.{Word, some_value}
+-- The words that are a command that is built.
+use Rattle.std.specs.Prelude.{⊤, Bool, true, false, List, Option, Some, IsTrue}
+use Rattle.std.specs.Option.{option_copied}
+use Rattle.log_model.specs.Format.{is_aux_path}
+use Rattle.command_model.specs.Options.{Word, ◌>>=◌, only_if}
 use Rattle.command_model.specs.CommandLine as line
-use Rattle.command_model.specs.CommandLine.Command.{ListFiles, DeleteFile}
-use Rattle.zenfs_cmd.specs.declared.words.Command.{Command}
-use Rattle.zenfs_cmd.specs.declared.words.Command.TheVariants as read
+use Rattle.command_model.specs.CommandLine.Command.{MakeImage, MakeFs, ListFiles, ShowInfo, DeleteFile}
+use Rattle.zenfs_cmd.specs.declared.words.Built.{Built}
+use Rattle.zenfs_cmd.specs.declared.words.Built.TheVariants as read
 
--- the value of `--image=P`, of at least one byte
-abbrev pub image_value : Word → Option Word
-image_value w = if starts_with nat_eq w (codes "--image=") then some_value (drop 8 w) else None
+-- the command is built
+abbrev pub is_built : line.Command → Bool
+is_built (MakeImage at g over) = true
+is_built (MakeFs at aux threshold collect over) = true
+is_built (ListFiles at prefix) = true
+is_built (ShowInfo at) = true
+is_built (DeleteFile at name) = true
+is_built _ = false
 
--- the value of `--path=NAME`, of at least one byte
-abbrev pub path_value : Word → Option Word
-path_value w = if starts_with nat_eq w (codes "--path=") then some_value (drop 7 w) else None
+-- a command, if it is built
+abbrev pub if_built : line.Command → Option line.Command
+if_built c = only_if (is_built c) c
 
--- a list of all files
-abbrev pub list_command : Option Word → Option line.Command
-list_command None = None
-list_command (Some at) = Some (ListFiles at None)
-
--- the deletion of a name
-abbrev pub delete_command : Option Word → Option Word → Option line.Command
-delete_command (Some at) (Some name) = Some (DeleteFile at name)
-delete_command (Some at) None = None
-delete_command None name = None
-
--- a command, or else another
-abbrev pub or_else : Option line.Command → Option line.Command → Option line.Command
-or_else None other = other
-or_else (Some c) other = Some c
-
--- a deletion, whose two options may stand in either order
-abbrev pub deletion_in : Word → Word → Option line.Command
-deletion_in first second = or_else (delete_command (image_value first) (path_value second)) (delete_command (image_value second) (path_value first))
-
--- the words `list --image=P`
-abbrev pub list_in : List Word → Option line.Command
-list_in (verb ∷ option ∷ []) = if bytes_eq verb (codes "list") then list_command (image_value option) else None
-list_in _ = None
-
--- two options, and no more
-abbrev pub two_options : List Word → Option line.Command
-two_options (first ∷ second ∷ others) = if length others == 0 then deletion_in first second else None
-two_options _ = None
-
--- the words `delete --image=P --path=NAME`
-abbrev pub delete_in : List Word → Option line.Command
-delete_in [] = None
-delete_in (verb ∷ options) = if bytes_eq verb (codes "delete") then two_options options else None
-
--- the command of some words; no other is built yet
+-- the command of some words, if it is built
 abbrev pub command_in : List Word → Option line.Command
-command_in words = or_else (list_in words) (delete_in words)
-
--- the image that the words name
-abbrev pub image_in : List Word → Option Word
-image_in words = option_map line.image_of (command_in words)
+command_in words = line.command words >>= if_built
 
 -- what was read of the words
-abbrev pub meaning_of : Command → line.Command
-meaning_of (read.List image) = ListFiles image.now None
+abbrev pub meaning_of : Built → line.Command
+meaning_of (read.MakeImage image geometry force) = MakeImage image.now geometry force
+meaning_of (read.MakeFs image options) = MakeFs image.now options.aux_path.now options.finish_threshold options.collect options.force
+meaning_of (read.List image prefix) = ListFiles image.now (option_copied prefix)
+meaning_of (read.Info image) = ShowInfo image.now
 meaning_of (read.Delete image path) = DeleteFile image.now path.now
 
--- the command changes the tree
-abbrev pub deletes : Option line.Command → Bool
-deletes (Some (DeleteFile at name)) = true
-deletes _ = false
+-- the auxiliary path of a new file system keeps its rule
+abbrev pub HasAuxPath : line.Command → Type 0
+HasAuxPath (MakeFs at aux threshold collect over) = IsTrue (is_aux_path aux)
+HasAuxPath _ = ⊤
+
+-- the command makes an image or a file system
+abbrev pub makes : Option line.Command → Bool
+makes (Some (MakeImage at g over)) = true
+makes (Some (MakeFs at aux threshold collect over)) = true
+makes _ = false
+
+-- the command changes the image
+abbrev pub changes : Option line.Command → Bool
+changes (Some (DeleteFile at name)) = true
+changes wanted = makes wanted

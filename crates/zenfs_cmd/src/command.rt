@@ -1,50 +1,66 @@
 // What `zenfs` does.
-ghost use Rattle.std.specs.Prelude.{◌≡◌, ◌≢◌, ◌⊎◌, ◌↔◌, ◌++◌, true, false, map, string_bytes, Some, None, OnOk, IfErr, IsErrOf};
+ghost use Rattle.std.specs.Prelude.{◌≡◌, ◌≢◌, ◌⊎◌, ◌↔◌, ◌++◌, ℕ, Bool, true, false, map, string_bytes, Some, None, OnOk, IfErr, IsErrOf};
+ghost use Rattle.zone_image.specs.declared.Geometry.{Geometry};
 ghost use Rattle.zone_image.specs.Counts.{Rose};
 ghost use Rattle.zone_image.specs.Image.{Image};
 ghost use Rattle.zone_image.specs.Moments.{LeavesOnly};
 ghost use Rattle.record_model.specs.Name.{is_name};
+ghost use Rattle.log_model.specs.Format.{new_superblock};
+ghost use Rattle.making_cmd.specs.Made.{IsBlank};
+ghost use Rattle.making_cmd.specs.NewFs.{HasNewFs};
 ghost use Rattle.fs_report.specs.declared.status.Status.TheVariants as status;
 ghost use Rattle.command_model.specs.CommandLine as line;
-ghost use Rattle.command_model.specs.CommandLine.Command.{ListFiles, DeleteFile};
+ghost use Rattle.command_model.specs.CommandLine.Command.{MakeImage, MakeFs, DeleteFile};
 ghost use Rattle.command_model.specs.Options.{Word};
 ghost use Rattle.zenfs_cmd.specs.declared.refusal.Refusal.{Refusal};
 ghost use Rattle.zenfs_cmd.specs.Deletion.{IsDeletedIn, IsDone, MayLeave};
-ghost use Rattle.zenfs_cmd.specs.Listing.{IsPrinted, IsPrintedInPart, IsSilent, listed_text};
-ghost use Rattle.zenfs_cmd.specs.Reasons.{HasReason, IsUnwritten, can_be_done};
+ghost use Rattle.zenfs_cmd.specs.Leaving.{Leaves};
+ghost use Rattle.zenfs_cmd.specs.Printing.{IsCutShort, IsPrinted, IsSilent, output_text};
+ghost use Rattle.zenfs_cmd.specs.Reasons.{CanBeDone, HasReason, IsUnwritten};
 ghost use Rattle.zenfs_cmd.specs.Refusals.{refusal_status, refusal_text};
-ghost use Rattle.zenfs_cmd.specs.Words.{command_in, deletes};
+ghost use Rattle.zenfs_cmd.specs.Words.{changes, command_in, makes};
 
-use crate::delete::delete_name;
-use crate::list::list_files;
+use crate::perform::perform;
 use crate::refusal::{Refusal, refuse};
-use crate::words::{Command, command_in};
+use crate::words::built_command;
 use fs_report::{Sink, Status};
 use std::alloc::Global;
 use zoned_device::ZonedDevice;
 
 /// Does all that `zenfs` does with these words over this device, and hands the device back. Results go
-/// to `out`, and the line of a refusal to `err`, of which a fault changes nothing. The words so far are
-/// `list --image=P` and `delete --image=P --path=NAME`.
+/// to `out`, and the line of a refusal to `err`, of which a fault changes nothing. A new file system's
+/// identifier is made of the random bits. Built are `mkimage`, `mkfs`, `list`, `fs-info` and `delete`;
+/// the words of every other command are a bad command line.
+///
+/// What a crash leaves is said of all commands but `mkimage` and `mkfs`: of a crash within one of
+/// these two nothing is said yet.
 pub fn run<D: ZonedDevice, O: Sink, E: Sink>(
     alloc: Global,
     words: &[String],
     mut dev: D,
     out: &mut O,
     err: &mut E,
+    random: u128,
 ) -> (Status, D)
     // Bad words are refused, and no others.
     ensures words { (result.0 ≡ status.Words) ↔ (command_in (map string_bytes words.now) ≡ None) }
 
-    // A list is that of the image.
-    ensures listed { result.0 ≡ status.Ok → (at : Word) → command_in (map string_bytes words.now) ≡ Some (ListFiles at None)
-        → D.tells → O.tells → IsPrinted (listed_text (D.image dev)) (O.written out.old) (O.written out.new) }
+    // What is printed is the text of the command over the image.
+    ensures printed { result.0 ≡ status.Ok → (c : line.Command) → command_in (map string_bytes words.now) ≡ Some c
+        → D.tells → O.tells → IsPrinted (output_text c (D.image dev)) (O.written out.old) (O.written out.new) }
+
+    // A new image has the stated geometry, and all its zones are empty. A new file system is one superblock and an empty
+    // snapshot in zone 0, all durable, and nothing else.
+    ensures blank { result.0 ≡ status.Ok → (at : Word) (g : Geometry) (over : Bool) → command_in (map string_bytes words.now) ≡ Some (MakeImage at g over)
+        → IsBlank D.known D.geometry D.infos D.tells D.image g result.1 }
+    ensures formatted { result.0 ≡ status.Ok → (at aux : Word) (threshold : ℕ) (collect over : Bool)
+        → command_in (map string_bytes words.now) ≡ Some (MakeFs at aux threshold collect over)
+        → HasNewFs D.known D.geometry D.infos D.tells D.image (λ g. new_superblock g random aux threshold collect) dev result.1 }
 
     // A deletion takes the name out of the table by one record, durably, and prints nothing: whatever a crash leaves then
     // has the table without the name.
     ensures deleted { result.0 ≡ status.Ok → (at name : Word) → command_in (map string_bytes words.now) ≡ Some (DeleteFile at name)
         → (out.new ≡ out.old) × (is_name name ≡ true) × (D.tells → IsDone name (D.image dev) (D.image result.1)) }
-
     ensures now { result.0 ≡ status.Ok → (at name : Word) → command_in (map string_bytes words.now) ≡ Some (DeleteFile at name)
         → (j : Image) → D.since result.1 (D.tick result.1) j → IsDeletedIn name (D.image dev) j }
 
@@ -52,22 +68,29 @@ pub fn run<D: ZonedDevice, O: Sink, E: Sink>(
     ensures refused { result.0 ≢ status.Ok → (refusal : Refusal) × (result.0 ≡ refusal_status refusal)
         × HasReason (command_in (map string_bytes words.now))
         (Rose (D.faults dev) (D.faults result.1))
-        (Rose (O.faults out.old) (O.faults out.new) × (D.tells → O.tells → IsPrintedInPart (listed_text (D.image dev)) (O.written out.old) (O.written out.new)))
+        (IsCutShort (Rose (O.faults out.old) (O.faults out.new)) (Leaves D.known D.geometry D.infos D.tells D.image (out.new ≡ out.old) random dev result.1)
+        (D.tells × O.tells) (O.written out.old) (O.written out.new) (D.image dev))
         D.tells (D.absent dev) (D.image dev) refusal
         × IsSilent refusal (out.new ≡ out.old)
         × IsUnwritten refusal (D.tells → D.image result.1 ≡ D.image dev)
         × ((Rose (E.faults err.old) (E.faults err.new) → ⊥) → E.tells → E.written err.new ≡ E.written err.old ++ refusal_text refusal) }
 
-    // Words and an image of this form, a name that is there, and no risen count end well unless memory is wanting.
-    ensures complete { (c : line.Command) → command_in (map string_bytes words.now) ≡ Some c → D.tells → (D.absent dev → ⊥) → can_be_done c (D.image dev) ≡ true
+    // What ends well had nothing against it.
+    ensures allowed { result.0 ≡ status.Ok → (c : line.Command) → command_in (map string_bytes words.now) ≡ Some c
+        → D.tells → CanBeDone (D.absent dev) (D.image dev) c }
+
+    // Words against which nothing stands, and no risen count, end well unless memory is wanting.
+    ensures complete { (c : line.Command) → command_in (map string_bytes words.now) ≡ Some c → D.tells → CanBeDone (D.absent dev) (D.image dev) c
         → (Rose (D.faults dev) (D.faults result.1) → ⊥) → (Rose (O.faults out.old) (O.faults out.new) → ⊥)
         → (result.0 ≡ status.Ok) ⊎ (result.0 ≡ status.Memory) }
 
-    // Without a deletion the image stays as it is. A crash at any moment leaves a crash of it, or the table after the deletion.
-    ensures unchanged { deletes (command_in (map string_bytes words.now)) ≡ false → D.tells → D.image result.1 ≡ D.image dev }
-    ensures any_moment { LeavesOnly D.tick D.since dev result.1 (MayLeave (command_in (map string_bytes words.now)) (D.image dev)) }
+    // A command that only prints leaves the image as it is. A crash at any moment of one that makes nothing leaves a crash
+    // of the image at entry, or the table after the deletion.
+    ensures unchanged { changes (command_in (map string_bytes words.now)) ≡ false → D.tells → D.image result.1 ≡ D.image dev }
+    ensures any_moment { makes (command_in (map string_bytes words.now)) ≡ false
+        → LeavesOnly D.tick D.since dev result.1 (MayLeave (command_in (map string_bytes words.now)) (D.image dev)) }
 {
-    match obey(alloc, words, &mut dev, out) {
+    match obey(alloc, words, &mut dev, out, random) {
         Ok(()) => (Status::Ok, dev),
         Err(refusal) => {
             let status = refuse(err, refusal);
@@ -82,25 +105,29 @@ fn obey<'a, D: ZonedDevice, O: Sink>(
     words: &'a [String],
     dev: &mut D,
     out: &mut O,
+    random: u128,
 ) -> Result<(), Refusal<'a>>
-    ensures listed { OnOk result ((at : Word) → command_in (map string_bytes words.now) ≡ Some (ListFiles at None)
-        → D.tells → O.tells → IsPrinted (listed_text (D.image dev.old)) (O.written out.old) (O.written out.new)) }
-    ensures deleted { OnOk result ((at name : Word) → command_in (map string_bytes words.now) ≡ Some (DeleteFile at name)
-        → (out.new ≡ out.old) × (is_name name ≡ true) × (D.tells → IsDone name (D.image dev.old) (D.image dev.new))) }
+    ensures left { (c : line.Command) → command_in (map string_bytes words.now) ≡ Some c
+        → OnOk result (Leaves D.known D.geometry D.infos D.tells D.image (out.new ≡ out.old) random dev.old dev.new c) }
+    ensures printed { (c : line.Command) → command_in (map string_bytes words.now) ≡ Some c
+        → OnOk result (D.tells → O.tells → IsPrinted (output_text c (D.image dev.old)) (O.written out.old) (O.written out.new)) }
+    ensures allowed { (c : line.Command) → command_in (map string_bytes words.now) ≡ Some c
+        → OnOk result (D.tells → CanBeDone (D.absent dev.old) (D.image dev.old) c) }
     ensures some { OnOk result (command_in (map string_bytes words.now) ≡ None → ⊥) }
     ensures refused { IfErr result (HasReason (command_in (map string_bytes words.now))
         (Rose (D.faults dev.old) (D.faults dev.new))
-        (Rose (O.faults out.old) (O.faults out.new) × (D.tells → O.tells → IsPrintedInPart (listed_text (D.image dev.old)) (O.written out.old) (O.written out.new)))
+        (IsCutShort (Rose (O.faults out.old) (O.faults out.new)) (Leaves D.known D.geometry D.infos D.tells D.image (out.new ≡ out.old) random dev.old dev.new)
+        (D.tells × O.tells) (O.written out.old) (O.written out.new) (D.image dev.old))
         D.tells (D.absent dev.old) (D.image dev.old)) }
     ensures words { command_in (map string_bytes words.now) ≡ None → IsErrOf result Refusal.Words }
     ensures silent { IfErr result (λ refusal. IsSilent refusal (out.new ≡ out.old)) }
     ensures unwritten { IfErr result (λ refusal. IsUnwritten refusal (D.tells → D.image dev.new ≡ D.image dev.old)) }
-    ensures unchanged { deletes (command_in (map string_bytes words.now)) ≡ false → D.tells → D.image dev.new ≡ D.image dev.old }
-    ensures any_moment { LeavesOnly D.tick D.since dev.old dev.new (MayLeave (command_in (map string_bytes words.now)) (D.image dev.old)) }
+    ensures unchanged { changes (command_in (map string_bytes words.now)) ≡ false → D.tells → D.image dev.new ≡ D.image dev.old }
+    ensures any_moment { makes (command_in (map string_bytes words.now)) ≡ false
+        → LeavesOnly D.tick D.since dev.old dev.new (MayLeave (command_in (map string_bytes words.now)) (D.image dev.old)) }
 {
-    match command_in(words) {
+    match built_command(words) {
         None => Err(Refusal::Words),
-        Some(Command::List { .. }) => list_files(alloc, dev, out),
-        Some(Command::Delete { path, .. }) => delete_name(alloc, dev, path),
+        Some(command) => perform(alloc, command, dev, out, random),
     }
 }

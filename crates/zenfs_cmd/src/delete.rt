@@ -13,7 +13,7 @@ ghost use Rattle.command_model.specs.CommandLine.Command.{DeleteFile};
 ghost use Rattle.command_model.specs.Options.{Word};
 ghost use Rattle.zenfs_cmd.specs.Deletion.{IsDeletedIn, IsDeletionOf, IsDone, has_free_blocks, has_room};
 ghost use Rattle.zenfs_cmd.specs.Logs.{HaveIds};
-ghost use Rattle.zenfs_cmd.specs.Reasons.{HasReason, IsNameRefused, IsUnwritten};
+ghost use Rattle.zenfs_cmd.specs.Reasons.{CanBeDone, HasReason, IsNameRefused, IsUnwritten, can_be_done};
 ghost use Rattle.zenfs_cmd.specs.SmallTables.{small_table};
 
 use crate::durable::add_durably;
@@ -36,7 +36,8 @@ pub(crate) fn delete_name<'a, D: ZonedDevice>(
 ) -> Result<(), Refusal<'a>>
     ensures done { OnOk result (D.tells → IsDone path.now (D.image dev.old) (D.image dev.new)) }
     ensures named { OnOk result (is_name path.now ≡ true) }
-    ensures refused { IfErr result (λ refusal. (at : Word) → HasReason (Some (DeleteFile at path.now)) (Rose (D.faults dev.old) (D.faults dev.new)) ⊥ D.tells (D.absent dev.old) (D.image dev.old) refusal) }
+    ensures allowed { (at : Word) → OnOk result (D.tells → CanBeDone (D.absent dev.old) (D.image dev.old) (DeleteFile at path.now)) }
+    ensures refused { IfErr result (λ refusal. (at : Word) → HasReason (Some (DeleteFile at path.now)) (Rose (D.faults dev.old) (D.faults dev.new)) (λ _. ⊥) D.tells (D.absent dev.old) (D.image dev.old) refusal) }
     ensures unwritten { IfErr result (λ refusal. IsUnwritten refusal (D.tells → D.image dev.new ≡ D.image dev.old)) }
     ensures any_moment { LeavesOnly D.tick D.since dev.old dev.new (λ j. IsCrash (D.image dev.old) j ⊎ IsDeletedIn path.now (D.image dev.old) j) }
 {
@@ -63,7 +64,8 @@ fn delete_from<'a, D: ZonedDevice>(
     requires ids { HaveIds opened.now.table.items }
     ensures done { OnOk result (D.tells → IsDone path.now (D.image dev.old) (D.image dev.new)) }
     ensures named { OnOk result (is_name path.now ≡ true) }
-    ensures refused { IfErr result (λ refusal. (at : Word) → HasReason (Some (DeleteFile at path.now)) (Rose (D.faults dev.old) (D.faults dev.new)) ⊥ D.tells ⊥ (D.image dev.old) refusal) }
+    ensures allowed { (at : Word) → OnOk result (D.tells → can_be_done (DeleteFile at path.now) (D.image dev.old) ≡ true) }
+    ensures refused { IfErr result (λ refusal. (at : Word) → HasReason (Some (DeleteFile at path.now)) (Rose (D.faults dev.old) (D.faults dev.new)) (λ _. ⊥) D.tells ⊥ (D.image dev.old) refusal) }
     ensures unwritten { IfErr result (λ refusal. IsUnwritten refusal (D.tells → D.image dev.new ≡ D.image dev.old)) }
     ensures any_moment { LeavesOnly D.tick D.since dev.old dev.new (λ j. IsCrash (D.image dev.old) j ⊎ IsDeletedIn path.now (D.image dev.old) j) }
 {

@@ -137,7 +137,7 @@ fn names_that_are_none_or_not_there_are_refused(rt: HostRuntime) -> Result<(), F
         (&["delete", "--image=i"], Status::Words, words),
         (&["delete", "--image=i", "--path="], Status::Words, words),
         (&["delete", "--path=a", "--path=b"], Status::Words, words),
-        (&["list", "--image=i", "--path=a"], Status::Words, words),
+        (&["list", "--image=i", "--path=a//b"], Status::Refused, bad),
     ];
     for (given, wanted, text) in table {
         let (status, mut dev, out, err) = ran(alloc, given, device(&rt, alloc, A_TXT)?, 100)?;

@@ -7,11 +7,16 @@ mod delete;
 #[cfg(test)]
 mod delete_tests;
 mod durable;
+mod info;
 pub mod laws;
 mod list;
 mod log;
 mod log_table;
+mod making;
+#[cfg(test)]
+mod making_tests;
 mod opened;
+mod perform;
 mod refusal;
 mod repeats;
 mod small_table;
@@ -21,6 +26,6 @@ mod tests;
 mod words;
 
 pub use command::run;
+pub use command_words::image_path;
 pub use fs_report::{MemSink, OutSink, Sink, SinkFault, Status};
 pub use refusal::{Refusal, refuse};
-pub use words::image_path;

@@ -1,9 +1,10 @@
 // Why a command is refused.
 ghost use Rattle.std.specs.Prelude.{◌≡◌, ◌++◌, OnOk, IsErr};
 ghost use Rattle.zone_image.specs.Counts.{HasCause, Rose};
-ghost use Rattle.zenfs_cmd.specs.Refusals.{refusal_cause, refusal_status, refusal_text, refused_name};
+ghost use Rattle.zenfs_cmd.specs.Refusals.{digits_of, refusal_cause, refusal_status, refusal_text, refused_name, refused_number};
 
 use fs_report::{Sink, SinkFault, Status, write_all};
+use itoa::Buffer;
 
 /// Why a command is refused.
 #[derive(Clone, Copy, Debug, PartialEq, Eq)]
@@ -18,6 +19,15 @@ pub enum Refusal<'a> {
     NoMemory,
     /// The file is no image of a zoned device.
     NotAnImage,
+    /// An image is there already.
+    ImageExists,
+    /// The five numbers are no geometry.
+    BadGeometry,
+    /// A file system is there already.
+    FsExists {
+        /// The lowest metadata zone that begins with a superblock's magic number.
+        zone: u32,
+    },
     /// The image isn't one log of a snapshot of files without bytes and of deletions; or it has no
     /// room for a record that the command adds.
     OtherImage,
@@ -38,6 +48,9 @@ impl<'a> Refusal<'a> {
             Refusal::OutputFault => Status::Fault,
             Refusal::NoMemory => Status::Memory,
             Refusal::NotAnImage => Status::Refused,
+            Refusal::ImageExists => Status::Refused,
+            Refusal::BadGeometry => Status::Refused,
+            Refusal::FsExists { .. } => Status::Refused,
             Refusal::OtherImage => Status::Refused,
             Refusal::BadName(_) => Status::Refused,
             Refusal::NotFound(_) => Status::Refused,
@@ -56,6 +69,9 @@ impl<'a> Refusal<'a> {
             Refusal::OutputFault => "",
             Refusal::NoMemory => "",
             Refusal::NotAnImage => "",
+            Refusal::ImageExists => "",
+            Refusal::BadGeometry => "",
+            Refusal::FsExists { .. } => "",
             Refusal::OtherImage => "",
         }
     }
@@ -65,19 +81,41 @@ impl<'a> Refusal<'a> {
         ensures { result.now ≡ refusal_cause self.entry }
     {
         match self {
-            Refusal::Words => "bad command line\n",
-            Refusal::DeviceFault => "device fault\n",
-            Refusal::OutputFault => "output fault\n",
-            Refusal::NoMemory => "out of memory\n",
-            Refusal::NotAnImage => "not a zoned image\n",
-            Refusal::OtherImage => "image form not built\n",
-            Refusal::BadName(_) => ": bad name\n",
-            Refusal::NotFound(_) => ": not found\n",
+            Refusal::Words => "bad command line",
+            Refusal::DeviceFault => "device fault",
+            Refusal::OutputFault => "output fault",
+            Refusal::NoMemory => "out of memory",
+            Refusal::NotAnImage => "not a zoned image",
+            Refusal::ImageExists => "image exists",
+            Refusal::BadGeometry => "bad geometry",
+            Refusal::FsExists { .. } => "file system exists in zone ",
+            Refusal::OtherImage => "image form not built",
+            Refusal::BadName(_) => ": bad name",
+            Refusal::NotFound(_) => ": not found",
+        }
+    }
+
+    // The number behind it, if there is one.
+    fn number(self) -> Option<u32>
+        ensures { result ≡ refused_number self.entry }
+    {
+        match self {
+            Refusal::FsExists { zone } => Some(zone),
+            Refusal::Words => None,
+            Refusal::DeviceFault => None,
+            Refusal::OutputFault => None,
+            Refusal::NoMemory => None,
+            Refusal::NotAnImage => None,
+            Refusal::ImageExists => None,
+            Refusal::BadGeometry => None,
+            Refusal::OtherImage => None,
+            Refusal::BadName(_) => None,
+            Refusal::NotFound(_) => None,
         }
     }
 }
 
-/// Says a refusal, of which a fault changes nothing, and tells how the program ends.
+/// Says a refusal, of which a fault changes nothing, and tells how the program ends. It takes no memory.
 pub fn refuse<E: Sink>(err: &mut E, refusal: Refusal<'_>) -> Status
     ensures status { result ≡ refusal_status refusal.entry }
     ensures said { (Rose (E.faults err.old) (E.faults err.new) → ⊥) → E.tells → E.written err.new ≡ E.written err.old ++ refusal_text refusal.entry }
@@ -94,5 +132,23 @@ fn say<E: Sink>(err: &mut E, refusal: Refusal<'_>) -> Result<(), SinkFault>
     write_all(err, b"zenfs: ")?;
     write_all(err, refusal.name().as_bytes())?;
     write_all(err, refusal.cause().as_bytes())?;
+    write_number(err, refusal.number())?;
+    write_all(err, b"\n")?;
     Ok(())
+}
+
+// Writes the digits of a number, if there is one.
+fn write_number<E: Sink>(err: &mut E, number: Option<u32>) -> Result<(), SinkFault>
+    ensures said { OnOk result (E.tells → E.written err.new ≡ E.written err.old ++ digits_of number) }
+    ensures cause { HasCause (E.faults err.old) (E.faults err.new) (IsErr result) }
+{
+    match number {
+        None => Ok(()),
+        Some(number) => {
+            let mut buffer = Buffer::new();
+            let digits = buffer.format(number);
+            write_all(err, digits.as_bytes())?;
+            Ok(())
+        }
+    }
 }

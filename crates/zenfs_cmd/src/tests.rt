@@ -8,7 +8,7 @@ use superblock_core::{AuxPath, Superblock, VersionText};
 use zone_image::Geometry;
 use zoned_device::{Failing, MemZones, ZonedDevice};
 
-const SHAPE: Geometry = Geometry {
+pub(crate) const SHAPE: Geometry = Geometry {
     block: 512,
     zone_blocks: 16,
     capacity: 16,
@@ -19,6 +19,10 @@ const SHAPE: Geometry = Geometry {
 // A snapshot of the empty file `a.txt`: its tag, the length of its list, and the list's one entry.
 pub(crate) const A_TXT: &[u8] =
     b"\x01\0\0\0\x43\x42\x01\0\0\0\x01\0\0\0\0\0\0\0\x03\0\0\0\0\0\0\0\0\0\0\0\x04\0\0\0\0\0\0\0\x06\0\0\0\x00\xf1\x53\x65\0\0\0\0\x07\0\0\0\xff\xff\xff\xff\xff\xff\xff\xff\x09\0\0\0\x05a.txt";
+
+// The same of the empty file `d/x.t`.
+const D_X_T: &[u8] =
+    b"\x01\0\0\0\x43\x42\x01\0\0\0\x01\0\0\0\0\0\0\0\x03\0\0\0\0\0\0\0\0\0\0\0\x04\0\0\0\0\0\0\0\x06\0\0\0\x00\xf1\x53\x65\0\0\0\0\x07\0\0\0\xff\xff\xff\xff\xff\xff\xff\xff\x09\0\0\0\x05d/x.t";
 
 // A snapshot of no file.
 const NOTHING: &[u8] = b"\x01\0\0\0\0";
@@ -83,13 +87,24 @@ pub(crate) fn ran<D: ZonedDevice>(
     dev: D,
     room: usize,
 ) -> Result<(Status, D, Vec<u8>, Vec<u8>), Fail> {
+    ran_with(alloc, words, dev, room, 0)
+}
+
+// The same, with these random bits.
+pub(crate) fn ran_with<D: ZonedDevice>(
+    alloc: Global,
+    words: &[&str],
+    dev: D,
+    room: usize,
+    random: u128,
+) -> Result<(Status, D, Vec<u8>, Vec<u8>), Fail> {
     let mut given = Vec::new(alloc);
     for word in words {
         given.push(String::from_str(alloc, word)?)?;
     }
     let mut out = MemSink::new(alloc, room, Vec::new(alloc))?;
     let mut err = MemSink::new(alloc, 100, Vec::new(alloc))?;
-    let (status, dev) = run(alloc, &given, dev, &mut out, &mut err);
+    let (status, dev) = run(alloc, &given, dev, &mut out, &mut err, random);
     Ok((
         status,
         dev,
@@ -119,12 +134,14 @@ fn a_file_is_listed_and_a_fault_of_the_output_leaves_a_front(rt: HostRuntime) ->
 #[test]
 fn bad_words_are_refused(rt: HostRuntime) -> Result<(), Fail> {
     let alloc = rt.alloc();
-    let table: [&[&str]; 5] = [
+    let table: [&[&str]; 7] = [
         &[],
         &["list"],
         &["list", "--image="],
         &["list", "--image=i", "--image=i"],
+        &["list", "--image=i", "x"],
         &["lists", "--image=i"],
+        &["df", "--image=i"],
     ];
     for words in table {
         let (status, out, err) = said(alloc, words, device(&rt, alloc, A_TXT)?, 100)?;
@@ -148,5 +165,22 @@ fn what_is_no_such_image_is_refused(rt: HostRuntime) -> Result<(), Fail> {
     let (status, _, err) = said(alloc, LIST, failing, 100)?;
     assert_eq!(rt; status, Status::Fault);
     assert_eq!(rt; err.as_slice(), b"zenfs: device fault\n".as_slice());
+    Ok(())
+}
+
+#[test]
+fn only_names_under_a_prefix_are_listed(rt: HostRuntime) -> Result<(), Fail> {
+    let alloc = rt.alloc();
+    let table: [(&str, &[u8]); 3] = [
+        ("--path=d", b"           0\t1700000000\td/x.t\n"),
+        ("--path=d/x.t", b""),
+        ("--path=e", b""),
+    ];
+    for (prefix, text) in table {
+        let words = ["list", "--image=i", prefix];
+        let (status, out, _) = said(alloc, &words, device(&rt, alloc, D_X_T)?, 100)?;
+        assert_eq!(rt; status, Status::Ok);
+        assert_eq!(rt; out.as_slice(), text);
+    }
     Ok(())
 }

@@ -8,6 +8,7 @@ use Rattle.record_model.specs.Encoding.{payload_of}
 use Rattle.log_model.specs.LogScan.{blocks_of}
 use Rattle.zenfs_cmd.specs.Deletion.{IsDeletedIn, IsDeletionOf}
 use Rattle.zenfs_cmd.specs.Reasons.{IsNameRefused}
+use Rattle.zenfs_cmd.proofs.AllowedLaws.{delete_allowed}
 use Rattle.zenfs_cmd.proofs.DeletionCrashes.{IsReady, deletion_done, passed_from, synced_from, within_deletion}
 use Rattle.zenfs_cmd.proofs.DeletionPayloads.{one_block, payload_has_bytes, payload_is_short}
 use Rattle.zenfs_cmd.proofs.ReasonLaws.{name_refused}
@@ -16,7 +17,7 @@ use Rattle.zenfs_cmd.proofs.delete.delete_from.Goals as goal
 
 pub returns-in-Err-deletion_of-clause-refused : goal.returns-in-Err-deletion_of-clause-refused
 returns-in-Err-deletion_of-clause-refused g c = λ at.
-    name_refused at c.args.path.now c.args.opened.now.table.items _ _ _ _ (g.D.ZonedDevice.image c.args.dev.now) c.in-Err-deletion_of.refusal (λ none. none) c.requires.table
+    name_refused at c.args.path.now c.args.opened.now.table.items _ (λ _. ⊥) _ _ (g.D.ZonedDevice.image c.args.dev.now) c.in-Err-deletion_of.refusal (λ none. none) c.requires.table
     (λ told. sym (c.in-Ok-true.ensures.room told) ∙ c.in-Ok-true.field-0-test)
     (subst (λ files. IsNameRefused c.args.path.now files c.in-Err-deletion_of.refusal) c.deref.ensures.value c.in-Err-deletion_of.ensures.refused)
 
@@ -93,3 +94,9 @@ returns-in-Err-DevFault-clause-any_moment g c =
     record { table = c.requires.table told; room = sym (c.in-Ok-true.ensures.room told) ∙ c.in-Ok-true.field-0-test; deletion = subst (λ files. IsDeletionOf c.args.path.now files c.in-Ok.payload) c.deref.ensures.value c.in-Ok.ensures.deletion; block = large } in
     within_deletion i j c.args.path.now c.in-Ok.payload es ready
     (passed_from i (D.image c.has_free_blocks.new.dev) j c.args.opened.now.geometry c.items.result.now c.in-Ok.payload (c.has_free_blocks.ensures.device.same_image told) shape c.items.ensures passed))
+
+pub returns-in-Ok-add_durably-clause-allowed : goal.returns-in-Ok-add_durably-clause-allowed
+returns-in-Ok-add_durably-clause-allowed g c = λ at told.
+    let es = c.args.opened.now.table.items in
+    delete_allowed at c.args.path.now c.in-Ok.payload (g.D.ZonedDevice.image c.args.dev.now) es (c.requires.table told) (sym (c.in-Ok-true.ensures.room told) ∙ c.in-Ok-true.field-0-test)
+    (subst (λ files. IsDeletionOf c.args.path.now files c.in-Ok.payload) c.deref.ensures.value c.in-Ok.ensures.deletion)
