@@ -5,3 +5,4 @@ pub mod AddingLaws
 pub mod ResetLaws
 pub mod AppendedImages
 pub mod RollCallLaws
+pub mod FewActive

@@ -9,6 +9,8 @@ mod rolling;
 mod room;
 pub mod settling;
 mod spelled;
+#[cfg(test)]
+mod tests;
 
 pub use adding::add_record;
 pub use log_roll::{RollBuffer, RollError};
