@@ -66,8 +66,9 @@ fn shape_to_format<D: ZonedDevice>(
     ensures known { OnOk result (D.known dev.new) }
     ensures shape { IfOk result (λ geometry. geometry ≡ D.geometry dev.new) }
     ensures may_replace { OnOk result (IsTrue force ⊎ (D.tells → begins_in (D.image dev.old) ≡ None)) }
+    ensures present { OnOk result (D.tells → D.absent dev.old → ⊥) }
     ensures refused { IfErr result (HasFsReason (Rose (D.faults dev.old) (D.faults dev.new)) ⊥ (D.tells → D.absent dev.old)
-        (λ zone. IsTrue (not force) × (D.tells → begins_in (D.image dev.old) ≡ Some zone))) }
+        (λ zone. IsTrue (not force) × (D.tells → (D.absent dev.old → ⊥) × (begins_in (D.image dev.old) ≡ Some zone)))) }
     ensures same_image { D.tells → D.image dev.new ≡ D.image dev.old }
     ensures never_falls { D.faults dev.old ≤ D.faults dev.new }
     ensures any_moment { LeavesOnly D.tick D.since dev.old dev.new (IsCrash (D.image dev.old)) }
