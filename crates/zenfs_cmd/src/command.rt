@@ -126,8 +126,9 @@ fn obey<'a, D: ZonedDevice, O: Sink>(
     ensures any_moment { makes (command_in (map string_bytes words.now)) ≡ false
         → LeavesOnly D.tick D.since dev.old dev.new (MayLeave (command_in (map string_bytes words.now)) (D.image dev.old)) }
 {
-    match built_command(words) {
-        None => Err(Refusal::Words),
-        Some(command) => perform(alloc, command, dev, out, random),
+    match built_command(alloc, words) {
+        Ok(Some(command)) => perform(alloc, command, dev, out, random),
+        Ok(None) => Err(Refusal::Words),
+        Err(_) => Err(Refusal::NoMemory),
     }
 }

@@ -1,8 +1,11 @@
 // The command that some words are.
-ghost use Rattle.std.specs.Prelude.{◌≡◌, map, string_bytes, option_map, IfSome};
-ghost use Rattle.zenfs_cmd.specs.Words.{HasAuxPath, command_in, meaning_of};
+ghost use Rattle.std.specs.Prelude.{◌≡◌, None, is_some, map, string_bytes, option_map, IfOk, IfSome, IsErr};
+ghost use Rattle.command_words.specs.Commands.{command_meant};
+ghost use Rattle.zenfs_cmd.specs.Words.{HasAuxPath, command_in, if_built, meaning_of};
 
-use command_words::{Command, read};
+use clap_words::read;
+use command_words::Command;
+use std::alloc::{AllocError, Global};
 use zone_image::Geometry;
 
 /// A command that is built, with the values of its options.
@@ -45,32 +48,28 @@ pub(crate) struct FsOptions<'a> {
     pub(crate) force: bool,
 }
 
-/// The command of the words, or None where they are none that is built.
-pub(crate) fn built_command(words: &[String]) -> Option<Built<'_>>
-    ensures exact { option_map meaning_of result ≡ command_in (map string_bytes words.now) }
-    ensures aux_path { IfSome result (λ built. HasAuxPath (meaning_of built)) }
+// A command, if it is built.
+fn if_built(command: Command<'_>) -> Option<Built<'_>>
+    ensures exact { option_map meaning_of result ≡ if_built (command_meant command.entry) }
+    ensures aux_path { HasAuxPath (command_meant command.entry) → IfSome result (λ built. HasAuxPath (meaning_of built)) }
 {
-    match read(words) {
-        Ok(
-            Command::MakeImage {
-                image,
-                geometry,
-                force,
-            },
-        ) => Some(Built::MakeImage {
+    match command {
+        Command::MakeImage {
+            image,
+            geometry,
+            force,
+        } => Some(Built::MakeImage {
             image,
             geometry,
             force,
         }),
-        Ok(
-            Command::MakeFs {
-                image,
-                aux_path,
-                finish_threshold,
-                collect,
-                force,
-            },
-        ) => Some(Built::MakeFs {
+        Command::MakeFs {
+            image,
+            aux_path,
+            finish_threshold,
+            collect,
+            force,
+        } => Some(Built::MakeFs {
             image,
             options: FsOptions {
                 aux_path,
@@ -79,15 +78,44 @@ pub(crate) fn built_command(words: &[String]) -> Option<Built<'_>>
                 force,
             },
         }),
-        Ok(Command::ListFiles { image, prefix }) => Some(Built::List { image, prefix }),
-        Ok(Command::ShowInfo { image }) => Some(Built::Info { image }),
-        Ok(Command::DeleteFile { image, path }) => Some(Built::Delete { image, path }),
-        Ok(Command::ShowSpace { .. }) => None,
-        Ok(Command::Dump { .. }) => None,
-        Ok(Command::Backup { .. }) => None,
-        Ok(Command::Restore { .. }) => None,
-        Ok(Command::LinkFile { .. }) => None,
-        Ok(Command::RenameFile { .. }) => None,
-        Err(_) => None,
+        Command::ListFiles { image, prefix } => Some(Built::List { image, prefix }),
+        Command::ShowInfo { image } => Some(Built::Info { image }),
+        Command::DeleteFile { image, path } => Some(Built::Delete { image, path }),
+        Command::ShowSpace { .. } => None,
+        Command::Dump { .. } => None,
+        Command::Backup { .. } => None,
+        Command::Restore { .. } => None,
+        Command::LinkFile { .. } => None,
+        Command::RenameFile { .. } => None,
+    }
+}
+
+// Whether the words are a command that is built, by our own test. It takes no memory.
+fn are_command(words: &[String]) -> bool
+    ensures { result ≡ is_some (command_in (map string_bytes words.now)) }
+{
+    match command_words::read(words) {
+        Ok(command) => if_built(command).is_some(),
+        Err(_) => false,
+    }
+}
+
+/// The command of the words, or None where they are none that is built. Our own test decides which words are one, and
+/// `clap` reads those. `AllocError` comes for want of memory, and never for words that are none.
+pub(crate) fn built_command<'a>(
+    alloc: Global,
+    words: &'a [String],
+) -> Result<Option<Built<'a>>, AllocError>
+    ensures exact { IfOk result (λ found. option_map meaning_of found ≡ command_in (map string_bytes words.now)) }
+    ensures aux_path { IfOk result (λ found. IfSome found (λ built. HasAuxPath (meaning_of built))) }
+    ensures wanted { IsErr result → command_in (map string_bytes words.now) ≡ None → ⊥ }
+{
+    if !are_command(words) {
+        return Ok(None);
+    }
+    match read(alloc, words) {
+        Ok(Some(command)) => Ok(if_built(command)),
+        Ok(None) => Ok(None),
+        Err(e) => Err(e),
     }
 }
