@@ -1,5 +1,5 @@
 -- What a deletion does to an image.
-use Rattle.std.specs.Prelude.{◌≡◌, ◌⊎◌, ℕ, ◌-◌, Bool, true, ◌&&◌, List, [], ◌∷◌, Option, Some, None, is_some, Ok, nat_le, if◌then◌else◌}
+use Rattle.std.specs.Prelude.{◌≡◌, ℕ, ◌-◌, Bool, true, ◌&&◌, List, [], ◌∷◌, Option, Some, None, is_some, Ok, nat_le, if◌then◌else◌}
 use Rattle.zone_image.specs.Image.{Image, IsCrash, zone_at}
 use Rattle.zone_image.specs.Infos.{info_of, is_active_info}
 use Rattle.zone_image.specs.declared.ZoneInfo.{ZoneInfo}
@@ -10,8 +10,6 @@ use Rattle.record_model.specs.Encoding.{payload_of}
 use Rattle.record_model.specs.Name.{is_name}
 use Rattle.log_model.specs.LogScan.{record_blocks}
 use Rattle.log_model.specs.FileTable.{Table, is_among, take_names}
-use Rattle.command_model.specs.CommandLine.{Command}
-use Rattle.command_model.specs.CommandLine.Command.{DeleteFile}
 use Rattle.zenfs_cmd.specs.SmallTables.{small_table}
 
 -- the id of the file that has this name
@@ -50,11 +48,6 @@ pub record IsDeletionOf (name : List ℕ) (es : Table) (payload : List ℕ) : Ty
   pub named : is_name name ≡ true
   pub spelled : payload ≡ payload_of (Deletion id name)
   pub read : record_of payload ≡ Ok (Deletion id name)
-
--- what a crash within a command may leave: a crash of the image at entry, or the table without the name that is deleted
-abbrev pub MayLeave : Option Command → Image → Image → Type 0
-MayLeave (Some (DeleteFile at name)) i j = IsCrash i j ⊎ IsDeletedIn name i j
-MayLeave _ i j = IsCrash i j
 
 -- a deletion was done: one record was added, all is durable, and whatever a crash leaves has the table without the name
 pub record IsDone (name : List ℕ) (i j : Image) : Type 0 where

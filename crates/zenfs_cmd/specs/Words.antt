@@ -44,6 +44,11 @@ makes (Some (MakeImage at g over)) = true
 makes (Some (MakeFs at aux threshold collect over)) = true
 makes _ = false
 
+-- the command makes an image
+abbrev pub makes_image : Option line.Command → Bool
+makes_image (Some (MakeImage at g over)) = true
+makes_image _ = false
+
 -- the command changes the image
 abbrev pub changes : Option line.Command → Bool
 changes (Some (DeleteFile at name)) = true

@@ -13,12 +13,12 @@ ghost use Rattle.command_model.specs.CommandLine as line;
 ghost use Rattle.command_model.specs.CommandLine.Command.{MakeImage, MakeFs, DeleteFile};
 ghost use Rattle.command_model.specs.Options.{Word};
 ghost use Rattle.zenfs_cmd.specs.declared.refusal.Refusal.{Refusal};
-ghost use Rattle.zenfs_cmd.specs.Deletion.{IsDeletedIn, IsDone, MayLeave};
-ghost use Rattle.zenfs_cmd.specs.Leaving.{Leaves};
+ghost use Rattle.zenfs_cmd.specs.Deletion.{IsDeletedIn, IsDone};
+ghost use Rattle.zenfs_cmd.specs.Leaving.{Leaves, MayLeave};
 ghost use Rattle.zenfs_cmd.specs.Printing.{IsCutShort, IsPrinted, IsSilent, output_text};
 ghost use Rattle.zenfs_cmd.specs.Reasons.{CanBeDone, HasReason, IsUnwritten};
 ghost use Rattle.zenfs_cmd.specs.Refusals.{refusal_status, refusal_text};
-ghost use Rattle.zenfs_cmd.specs.Words.{changes, command_in, makes};
+ghost use Rattle.zenfs_cmd.specs.Words.{changes, command_in, makes_image};
 
 use crate::perform::perform;
 use crate::refusal::{Refusal, refuse};
@@ -32,8 +32,8 @@ use zoned_device::ZonedDevice;
 /// identifier is made of the random bits. Built are `mkimage`, `mkfs`, `list`, `fs-info` and `delete`;
 /// the words of every other command are a bad command line.
 ///
-/// What a crash leaves is said of all commands but `mkimage` and `mkfs`: of a crash within one of
-/// these two nothing is said yet.
+/// What a crash leaves is said of all commands but `mkimage` (`any_moment`). A crash within `mkfs` over an
+/// image whose every crash has a log that counts leaves the old file system, none, or the new one.
 pub fn run<D: ZonedDevice, O: Sink, E: Sink>(
     alloc: Global,
     words: &[String],
@@ -84,11 +84,11 @@ pub fn run<D: ZonedDevice, O: Sink, E: Sink>(
         → (Rose (D.faults dev) (D.faults result.1) → ⊥) → (Rose (O.faults out.old) (O.faults out.new) → ⊥)
         → (result.0 ≡ status.Ok) ⊎ (result.0 ≡ status.Memory) }
 
-    // A command that only prints leaves the image as it is. A crash at any moment of one that makes nothing leaves a crash
-    // of the image at entry, or the table after the deletion.
+    // A command that only prints leaves the image as it is. A crash at any moment of one that makes no image leaves a
+    // crash of the image at entry, or the table after the deletion, or what formatting leaves.
     ensures unchanged { changes (command_in (map string_bytes words.now)) ≡ false → D.tells → D.image result.1 ≡ D.image dev }
-    ensures any_moment { makes (command_in (map string_bytes words.now)) ≡ false
-        → LeavesOnly D.tick D.since dev result.1 (MayLeave (command_in (map string_bytes words.now)) (D.image dev)) }
+    ensures any_moment { makes_image (command_in (map string_bytes words.now)) ≡ false
+        → LeavesOnly D.tick D.since dev result.1 (MayLeave random (command_in (map string_bytes words.now)) (D.image dev)) }
 {
     match obey(alloc, words, &mut dev, out, random) {
         Ok(()) => (Status::Ok, dev),
@@ -123,8 +123,8 @@ fn obey<'a, D: ZonedDevice, O: Sink>(
     ensures silent { IfErr result (λ refusal. IsSilent refusal (out.new ≡ out.old)) }
     ensures unwritten { IfErr result (λ refusal. IsUnwritten refusal (D.tells → D.image dev.new ≡ D.image dev.old)) }
     ensures unchanged { changes (command_in (map string_bytes words.now)) ≡ false → D.tells → D.image dev.new ≡ D.image dev.old }
-    ensures any_moment { makes (command_in (map string_bytes words.now)) ≡ false
-        → LeavesOnly D.tick D.since dev.old dev.new (MayLeave (command_in (map string_bytes words.now)) (D.image dev.old)) }
+    ensures any_moment { makes_image (command_in (map string_bytes words.now)) ≡ false
+        → LeavesOnly D.tick D.since dev.old dev.new (MayLeave random (command_in (map string_bytes words.now)) (D.image dev.old)) }
 {
     match built_command(alloc, words) {
         Ok(Some(command)) => perform(alloc, command, dev, out, random),

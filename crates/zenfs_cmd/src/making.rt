@@ -1,10 +1,11 @@
 // The commands `mkimage` and `mkfs`.
 ghost use Rattle.std.specs.Prelude.{◌≡◌, ℕ, Some, IsTrue, OnOk, IfErr};
 ghost use Rattle.zone_image.specs.Counts.{Rose};
+ghost use Rattle.zone_image.specs.Moments.{LeavesOnly};
 ghost use Rattle.log_model.specs.Format.{is_aux_path};
 ghost use Rattle.command_model.specs.CommandLine.Command.{MakeImage, MakeFs};
 ghost use Rattle.command_model.specs.Options.{Word};
-ghost use Rattle.zenfs_cmd.specs.Leaving.{Leaves};
+ghost use Rattle.zenfs_cmd.specs.Leaving.{Leaves, MayLeave};
 ghost use Rattle.zenfs_cmd.specs.Printing.{IsCutShort, IsPrinted, IsSilent, output_text};
 ghost use Rattle.zenfs_cmd.specs.Reasons.{CanBeDone, HasReason, IsUnwritten};
 
@@ -69,6 +70,8 @@ pub(crate) fn make_file_system<'a, D: ZonedDevice, O: Sink>(
         D.tells (D.absent dev.old) (D.image dev.old)) }
     ensures silent { IfErr result (λ refusal. IsSilent refusal (out.new ≡ out.old)) }
     ensures unwritten { IfErr result (λ refusal. IsUnwritten refusal (D.tells → D.image dev.new ≡ D.image dev.old)) }
+    ensures any_moment { (at : Word) → LeavesOnly D.tick D.since dev.old dev.new (MayLeave random
+        (Some (MakeFs at options.now.aux_path.now options.now.finish_threshold options.now.collect options.now.force)) (D.image dev.old)) }
 {
     let settings = settings_of(options);
     match make_fs(alloc, dev, out, &settings, options.force, random) {

@@ -2,11 +2,10 @@
 ghost use Rattle.std.specs.Prelude.{◌≡◌, Some, false, OnOk, IfErr};
 ghost use Rattle.zone_image.specs.Counts.{Rose};
 ghost use Rattle.zone_image.specs.Moments.{LeavesOnly};
-ghost use Rattle.zenfs_cmd.specs.Deletion.{MayLeave};
-ghost use Rattle.zenfs_cmd.specs.Leaving.{Leaves};
+ghost use Rattle.zenfs_cmd.specs.Leaving.{Leaves, MayLeave};
 ghost use Rattle.zenfs_cmd.specs.Printing.{IsCutShort, IsPrinted, IsSilent, output_text};
 ghost use Rattle.zenfs_cmd.specs.Reasons.{CanBeDone, HasReason, IsUnwritten};
-ghost use Rattle.zenfs_cmd.specs.Words.{HasAuxPath, changes, makes, meaning_of};
+ghost use Rattle.zenfs_cmd.specs.Words.{HasAuxPath, changes, makes_image, meaning_of};
 
 use crate::delete::delete_name;
 use crate::info::show_info;
@@ -38,7 +37,7 @@ pub(crate) fn perform<'a, D: ZonedDevice, O: Sink>(
     ensures silent { IfErr result (λ refusal. IsSilent refusal (out.new ≡ out.old)) }
     ensures unwritten { IfErr result (λ refusal. IsUnwritten refusal (D.tells → D.image dev.new ≡ D.image dev.old)) }
     ensures unchanged { changes (Some (meaning_of command.entry)) ≡ false → D.tells → D.image dev.new ≡ D.image dev.old }
-    ensures any_moment { makes (Some (meaning_of command.entry)) ≡ false → LeavesOnly D.tick D.since dev.old dev.new (MayLeave (Some (meaning_of command.entry)) (D.image dev.old)) }
+    ensures any_moment { makes_image (Some (meaning_of command.entry)) ≡ false → LeavesOnly D.tick D.since dev.old dev.new (MayLeave random (Some (meaning_of command.entry)) (D.image dev.old)) }
 {
     match command {
         Built::MakeImage {

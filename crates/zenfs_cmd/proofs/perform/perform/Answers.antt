@@ -59,3 +59,6 @@ returns-in-Info-clause-allowed g c = rw c.in-Info.is (c.show_info.ensures.allowe
 
 pub returns-in-Delete-clause-allowed : goal.returns-in-Delete-clause-allowed
 returns-in-Delete-clause-allowed g c = rw c.in-Delete.is (c.delete_name.ensures.allowed c.in-Delete.image.now)
+
+pub returns-in-MakeFs-clause-any_moment : goal.returns-in-MakeFs-clause-any_moment
+returns-in-MakeFs-clause-any_moment g c = rw c.in-MakeFs.is (λ _. c.make_file_system.ensures.any_moment c.in-MakeFs.image.now)
