@@ -9,6 +9,8 @@ use record_model::{MAX_ID, NO_ACTIVE};
 use std::alloc::Global;
 use std::test::*;
 
+mod links;
+
 // A name.
 fn name(alloc: Global, text: &str) -> Result<Name, Fail> {
     match Name::read(alloc, text) {

@@ -16,6 +16,8 @@ mod records;
 mod recovered;
 mod rules;
 mod tables;
+#[cfg(test)]
+mod tests;
 
 pub use error::ReplayError;
 pub use mount::{Mounted, replay};
