@@ -3,3 +3,4 @@ pub mod SpaceLaws
 pub mod PlanLaws
 pub mod TableLaws
 pub mod NamedLaws
+pub mod FinishLaws

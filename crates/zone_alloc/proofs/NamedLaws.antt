@@ -56,7 +56,7 @@ least_is P key [] all = tt
 least_is P key (x ∷ xs) all = lesser_is P key x (least key xs) (All-head P x xs all) (least_is P key xs (All-tail P x xs all))
 
 -- a zone that was found is named
-named_is : (p q : Numbered → Bool) (t : ZoneTableState) → length t.zones ≡ t.geometry.zones → ((z : Numbered) → p z ≡ true → q z ≡ true) → (z : Numbered) → IsFound p t.zones z → IsNamed q t z.0
+pub named_is : (p q : Numbered → Bool) (t : ZoneTableState) → length t.zones ≡ t.geometry.zones → ((z : Numbered) → p z ≡ true → q z ≡ true) → (z : Numbered) → IsFound p t.zones z → IsNamed q t z.0
 named_is p q t count weaker z found = record {
   behind_metadata = found.0.behind_metadata;
   is_zone = omega (arith, found.0.in_range, count);

@@ -4,6 +4,7 @@
 mod choosing;
 mod collecting;
 mod extent;
+mod finishing;
 mod space;
 #[cfg(test)]
 mod tests;

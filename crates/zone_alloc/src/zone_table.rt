@@ -5,11 +5,13 @@ ghost use Rattle.fs_model.specs.FsState.{touched};
 ghost use Rattle.fs_model.specs.ZonePolicy.{is_idle, is_open, choose_zone, space};
 ghost use Rattle.fs_model.specs.VictimPolicy.{victim, resettable};
 ghost use Rattle.zone_alloc.specs.ZoneTableState.{IsZoneTable, unused_state, state_at};
+ghost use Rattle.zone_alloc.specs.Finishing.{zone_to_finish, NamesActiveZone};
 ghost use Rattle.zone_alloc.specs.NamedZones.{NamesIdleZones, IsLowestResettable};
 
 use crate::choosing::chosen_zone;
 use crate::collecting::{next_victim, resettable_zone};
 use crate::extent::{touched, zone_of};
+use crate::finishing::zone_to_finish;
 use crate::space::space_of;
 use fs_model::{Choice, Owner, Plan, Space, ZoneState};
 use record_model::Extent;
@@ -66,6 +68,14 @@ impl ZoneTable {
         })
     }
 
+    /// The shape of the device.
+    pub fn geometry(&self) -> Geometry
+        ensures value { result ≡ self.now.geometry }
+        ensures table { IsZoneTable self.now.geometry self.now.zones }
+    {
+        self.geometry
+    }
+
     /// A zone, by number.
     pub fn state(&self, zone: u32) -> &ZoneState
         requires { zone < self.now.geometry.zones }
@@ -100,6 +110,15 @@ impl ZoneTable {
         ensures lowest { IsLowestResettable self.now result }
     {
         resettable_zone(&self.zones)
+    }
+
+    /// The active data zone with least room among those that nobody holds, where these are as many as the device allows. It
+    /// has to be finished before one more is active. None where they are not so many.
+    pub fn zone_to_finish(&self) -> Option<u32>
+        ensures exact { result ≡ zone_to_finish self.now.geometry self.now.zones }
+        ensures active { NamesActiveZone self.now result }
+    {
+        zone_to_finish(&self.geometry, &self.zones)
     }
 
     /// The free blocks of data zones, the bytes of live extents, the bytes of sealed data zones that aren't live, and
