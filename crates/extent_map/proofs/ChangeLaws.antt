@@ -11,7 +11,7 @@ use Rattle.extent_map.specs.Records.{recorded_of}
 use Rattle.extent_map.specs.TableState.{IsTableState}
 
 -- rows past an id stay
-past : (from id : ℕ) (f : TableRow → TableRow) (rows : List TableRow) → IdsRise from (recorded_of rows) → id < from → on_row id f rows ≡ rows
+pub past : (from id : ℕ) (f : TableRow → TableRow) (rows : List TableRow) → IdsRise from (recorded_of rows) → id < from → on_row id f rows ≡ rows
 past from id f [] rise lt = refl
 past from id f (r ∷ rs) rise lt =
     ap (λ b. cond b (f r) r ∷ on_row id f rs) (ne_eqb r.entry.id id (λ same. omega (arith, rise.0)))
@@ -89,11 +89,9 @@ above_kept : (g : TableRow → TableRow) (greatest : ℕ) (rows : List TableRow)
 above_kept g greatest [] keeps h = tt
 above_kept g greatest (r ∷ rs) keeps h = let same = (keeps r).0 in (omega (arith, h.0, same), above_kept g greatest rs keeps h.1)
 
--- a change of one row that keeps its id and its names keeps the table one
-pub kept_state : (id : ℕ) (f : TableRow → TableRow) (rows : List TableRow) (greatest : ℕ) → KeepsNames f → IsTableState rows greatest → IsTableState (on_row id f rows) greatest
-kept_state id f rows greatest keeps state =
-    let g : TableRow → TableRow = λ r. cond (r.entry.id == id) (f r) r in
-    let all : KeepsNames g = kept_by id f keeps in
+-- a change of rows that keeps ids and names keeps the table one
+pub mapped_state : (g : TableRow → TableRow) (rows : List TableRow) (greatest : ℕ) → KeepsNames g → IsTableState rows greatest → IsTableState (map g rows) greatest
+mapped_state g rows greatest all state =
     record {
       table = record {
         ids = rise_kept g 0 rows all state.table.ids;
@@ -107,6 +105,10 @@ kept_state id f rows greatest keeps state =
       above = above_kept g greatest rows all state.above;
       limit = state.limit;
     }
+
+-- so does one of one row
+pub kept_state : (id : ℕ) (f : TableRow → TableRow) (rows : List TableRow) (greatest : ℕ) → KeepsNames f → IsTableState rows greatest → IsTableState (on_row id f rows) greatest
+kept_state id f rows greatest keeps state = mapped_state (λ r. cond (r.entry.id == id) (f r) r) rows greatest (kept_by id f keeps) state
 
 -- the row at the place of an id, changed by this, where the ids rise
 pub changed_in : (id : ℕ) (f : TableRow → TableRow) (rows : List TableRow) (k : ℕ) (row new : TableRow) → IdsRise 0 (recorded_of rows) → k < length rows

@@ -1,5 +1,7 @@
+pub mod AfterLaws
 pub mod ChangeLaws
 pub mod CreateLaws
+pub mod GrowthLaws
 pub mod LengthLaws
 pub mod ApplyLaws
 pub mod LinkLaws

@@ -135,7 +135,7 @@ unnamed_at name (r ∷ rs) (suc k) d none lt = unnamed_at name rs k d (later (is
     later false h = h
 
 -- a file that is found by a name has it
-named_has : (name : List ℕ) (rows : List TableRow) (r : TableRow) → row_named name rows ≡ Some r → is_among r.entry.names name ≡ true
+pub named_has : (name : List ℕ) (rows : List TableRow) (r : TableRow) → row_named name rows ≡ Some r → is_among r.entry.names name ≡ true
 named_has name [] r is = absurd cc
 named_has name (q ∷ qs) r is = choice (is_among q.entry.names name) refl is (named_has name qs r)
   where
@@ -145,7 +145,7 @@ named_has name (q ∷ qs) r is = choice (is_among q.entry.names name) refl is (n
     choice false has h rest = rest h
 
 -- a name of one file isn't among the names of another that shares none
-not_shared : (names ns : List (List ℕ)) (name : List ℕ) → list_any (is_among names) ns ≡ false → is_among names name ≡ true → is_among ns name ≡ false
+pub not_shared : (names ns : List (List ℕ)) (name : List ℕ) → list_any (is_among names) ns ≡ false → is_among names name ≡ true → is_among ns name ≡ false
 not_shared names [] name apart has = refl
 not_shared names (n ∷ ns) name apart has =
     let parts = or_parts (is_among names n) (list_any (is_among names) ns) apart in
@@ -154,7 +154,7 @@ not_shared names (n ∷ ns) name apart has =
     (not_shared names ns name parts.1 has)
 
 -- the recorded entry of a file that is found
-found_entry : (rows : List TableRow) (r : TableRow) → row_of r.entry.id rows ≡ Some r → file_of r.entry.id (recorded_of rows) ≡ Some r.entry
+pub found_entry : (rows : List TableRow) (r : TableRow) → row_of r.entry.id rows ≡ Some r → file_of r.entry.id (recorded_of rows) ≡ Some r.entry
 found_entry rows r there = file_recorded r.entry.id rows ∙ ap (option_map (λ (q : TableRow). q.entry)) there
 
 -- a file of a table has a name

@@ -13,7 +13,7 @@ use Rattle.fs_model.proofs.TreeLaws.{not_true}
 -- ---- a name in the place of another
 
 -- names that are all others stay
-renamed_others : (old new : List ℕ) (ns : List (List ℕ)) → AllByRecursion (λ n. n ≢ old) ns → renamed old new ns ≡ ns
+pub renamed_others : (old new : List ℕ) (ns : List (List ℕ)) → AllByRecursion (λ n. n ≢ old) ns → renamed old new ns ≡ ns
 renamed_others old new [] h = refl
 renamed_others old new (n ∷ ns) h =
     ap (λ b. cond b new n ∷ renamed old new ns) (not_true (bytes_eq n old) (λ is. h.0 (same_text n old (sym is)))) ∙ ap (λ (ms : List (List ℕ)). n ∷ ms) (renamed_others old new ns h.1)

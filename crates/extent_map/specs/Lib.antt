@@ -1,9 +1,11 @@
 pub mod Applying
+pub mod ChangeLengths
 pub mod Changes
 pub mod Creating
 pub mod Lookups
 pub mod Naming
 pub mod Records
+pub mod RowsAfter
 pub mod Sound
 pub mod Spare
 pub mod TableState

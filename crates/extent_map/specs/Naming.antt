@@ -1,8 +1,9 @@
 -- Names that are given, moved and taken away.
 use Rattle.std.specs.Prelude.{ℕ, ◌-◌, List, ◌∷◌, [], ◌++◌, length, map, filter, min, Option, Some, None, Result, Ok, Err, is_some, ◌==◌, if◌then◌else◌}
 use Rattle.std.specs.Option.{option_and_then}
+use Rattle.record_model.specs.declared.types.Extent.{Extent}
 use Rattle.log_model.specs.FileTable.{names_left, is_named}
-use Rattle.fs_model.specs.FsState.{TableRow, row_of, on_row}
+use Rattle.fs_model.specs.FsState.{TableRow, row_of, row_named, on_row}
 use Rattle.fs_model.specs.TreeSteps.{with_names}
 use Rattle.extent_map.specs.declared.error.TableError.{TableError}
 use Rattle.extent_map.specs.declared.error.TableError.TheVariants.{NotFound, Exists}
@@ -49,3 +50,12 @@ names_within room (Some r) most = min (room - length r.entry.names) most
 -- the file for which room was made last
 abbrev pub reserved_row : Option ℕ → List TableRow → Option TableRow
 reserved_row reserved rows = option_and_then (λ id. row_of id rows) reserved
+
+-- the extents of a file that is gone without this name
+abbrev pub lost_by : List ℕ → Option TableRow → List Extent
+lost_by name None = []
+lost_by name (Some r) = if is_named (without_names (name ∷ []) r).entry then [] else r.entry.extents
+
+-- the recorded extents of the file that is gone once this name is taken away
+abbrev pub lost_extents : List ℕ → List TableRow → List Extent
+lost_extents name rows = lost_by name (row_named name rows)

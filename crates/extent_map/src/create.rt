@@ -57,7 +57,14 @@ fn only_name(mut room: Vec<Name>, name: Name) -> Names
 }
 
 /// The entry of a new file.
-fn new_entry(alloc: Global, id: u64, names: Names, hint: u32, sparse: bool, time: u64) -> FileEntry
+pub(crate) fn new_entry(
+    alloc: Global,
+    id: u64,
+    names: Names,
+    hint: u32,
+    sparse: bool,
+    time: u64,
+) -> FileEntry
     ensures { (name : List ℕ) → names ≡ name ∷ [] → result ≡ new_entry id name hint sparse time }
 {
     FileEntry {

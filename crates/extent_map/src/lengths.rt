@@ -3,7 +3,7 @@
 //! The numbers stop at the greatest 64-bit number on the way, which no length comes to that may be
 //! asked for.
 
-ghost use Rattle.std.specs.Prelude.{◌≡◌, ◌+◌, ◌^◌, ◌<◌, ◌≤◌, ℕ, length, max};
+ghost use Rattle.std.specs.Prelude.{◌≡◌, ◌+◌, ◌^◌, ◌<◌, ◌≤◌, ℕ, List, cond, length, max};
 ghost use Rattle.std.specs.List.{flat_map};
 ghost use Rattle.record_model.specs.Numbers.{varint};
 ghost use Rattle.record_model.specs.Encoding.{field_bytes, entry_bytes, slice};
@@ -12,7 +12,9 @@ ghost use Rattle.record_codec.specs.Length.{told};
 ghost use Rattle.log_model.specs.Headroom.{greatest_blocks};
 ghost use Rattle.log_model.specs.LogScan.{blocks_of};
 ghost use Rattle.fs_model.specs.FsState.{working_entry, working_of};
+ghost use Rattle.fs_model.specs.TreeSteps.{with_names};
 ghost use Rattle.extent_map.specs.Records.{snapshot_len, greatest_len};
+ghost use Rattle.extent_map.specs.RowsAfter.{AreNamesOf};
 
 use crate::row::Row;
 use crate::table::FileTable;
@@ -57,7 +59,7 @@ pub(crate) fn snapshot_told(rows: &[Row]) -> u64
 }
 
 /// The same of the longest update.
-fn greatest_len(rows: &[Row]) -> u64
+pub(crate) fn greatest_len(rows: &[Row]) -> u64
     ensures { result ≡ told (greatest_len (working_of rows.now)) }
 {
     let mut greatest: u64 = 0;
@@ -68,7 +70,7 @@ fn greatest_len(rows: &[Row]) -> u64
 }
 
 /// The bytes of the entries, each in a slice.
-fn entries_len(rows: &[Row]) -> u64
+pub(crate) fn entries_len(rows: &[Row]) -> u64
     ensures { result ≡ told (length (flat_map (λ e. slice (entry_bytes e)) (working_of rows.now))) }
 {
     let mut len: u64 = 0;
@@ -82,19 +84,31 @@ fn entries_len(rows: &[Row]) -> u64
 fn working_len(row: &Row) -> u64
     ensures { result ≡ told (length (entry_bytes (working_entry row.now))) }
 {
+    working_len_with(row, names_len(row.entry().names.items()))
+}
+
+/// The same, with names whose fields take so many bytes.
+pub(crate) fn working_len_with(row: &Row, names_len: u64) -> u64
+    ensures { (names : List (List ℕ)) → AreNamesOf names_len names → result ≡ told (length (entry_bytes (working_entry (with_names names row.now)))) }
+{
     let entry = row.entry();
     let recorded = EXTENT_FIELD_BYTES.saturating_mul(entry.extents.items().len() as u64);
     let unrecorded = EXTENT_FIELD_BYTES.saturating_mul(row.unrecorded().len() as u64);
-    let sparse = if entry.sparse { TAG_BYTES } else { 0 };
-    let names = names_len(entry.names.items());
-    names
+    bare_len(names_len, entry.sparse)
         .saturating_add(recorded)
         .saturating_add(unrecorded)
-        .saturating_add(FIXED_FIELDS_BYTES + sparse)
+}
+
+/// The bytes of an entry without extents, and with names whose fields take so many bytes.
+pub(crate) fn bare_len(names_len: u64, sparse: bool) -> u64
+    ensures { result ≡ told (56 + cond sparse 4 0 + names_len) }
+{
+    let mark = if sparse { TAG_BYTES } else { 0 };
+    names_len.saturating_add(FIXED_FIELDS_BYTES + mark)
 }
 
 /// The bytes of the fields of names.
-fn names_len(names: &[Name]) -> u64
+pub(crate) fn names_len(names: &[Name]) -> u64
     ensures { result ≡ told (length (flat_map (λ name. field_bytes (Linked name)) names.now)) }
 {
     let mut len: u64 = 0;
@@ -105,14 +119,14 @@ fn names_len(names: &[Name]) -> u64
 }
 
 /// The bytes of a tag and of a slice of so many bytes.
-fn tagged_len(content: u64) -> u64
+pub(crate) fn tagged_len(content: u64) -> u64
     ensures { result ≡ told (4 + (length (varint content) + content)) }
 {
     TAG_BYTES.saturating_add(slice_len(content))
 }
 
 /// The bytes of a slice of so many bytes.
-fn slice_len(content: u64) -> u64
+pub(crate) fn slice_len(content: u64) -> u64
     ensures { result ≡ told (length (varint content) + content) }
 {
     varint_len(content).saturating_add(content)

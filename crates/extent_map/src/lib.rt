@@ -3,6 +3,8 @@
 
 mod apply;
 mod change;
+mod change_lengths;
+mod clearing;
 mod copies;
 mod create;
 mod error;
@@ -12,17 +14,22 @@ mod links;
 mod locate;
 mod lookups;
 mod moves;
+mod name_lengths;
 mod name_lists;
+mod name_records;
 mod place;
 mod records;
 mod room;
 mod row;
+mod rows_after;
 mod setting;
 mod sizes;
 mod snapshot;
 mod table;
 mod taken;
+mod valid;
 
+pub use change_lengths::{ChangeLengths, deletion_bytes};
 pub use error::{ApplyError, Moved, TableError};
 pub use fs_model::Move;
 pub use record_model::{Extent, Extents, FileEntry, Files, Name, Names, Record};

@@ -8,15 +8,16 @@ ghost use Rattle.fs_model.specs.FsState.{TableRow, on_row, row_named, row_of};
 ghost use Rattle.fs_model.specs.TreeSteps.{drop_name, renamed_rows, with_names};
 ghost use Rattle.extent_map.specs.declared.error.Moved.TheVariants as moves;
 ghost use Rattle.extent_map.specs.Records.{recorded_of};
-ghost use Rattle.extent_map.specs.Naming.{linked_id, linked_rows, moved_id, unlinked_id};
+ghost use Rattle.extent_map.specs.Naming.{linked_id, linked_rows, lost_by, lost_extents, moved_id, unlinked_id};
 
 use crate::change::index_of;
 use crate::error::{Moved, TableError};
 use crate::lookups::row_named;
+use crate::name_lists::keeps_name;
 use crate::row::Row;
 use crate::table::FileTable;
 use crate::taken::take_names;
-use record_model::Name;
+use record_model::{Extent, Name};
 use std::{mem, slice};
 
 impl FileTable {
@@ -76,6 +77,16 @@ impl FileTable {
         }
     }
 
+    /// The recorded extents of the file that is gone once this name is taken away, and none where no file is.
+    pub fn lost_extents(&self, name: &Name) -> &[Extent]
+        ensures { result.now ≡ lost_extents name.now self.now.rows }
+    {
+        match row_named(&self.rows, name) {
+            None => &[],
+            Some(row) => lost_by(row, name),
+        }
+    }
+
     /// Takes a name from its file, which is gone where it has none left, and tells the file's id.
     /// `NotFound` comes exactly where no file has the name; the table is then as before. It takes no
     /// memory.
@@ -91,6 +102,17 @@ impl FileTable {
         let id = row.id();
         take_names(&mut self.rows, slice::from_ref(name));
         Ok(id)
+    }
+}
+
+/// The extents of a file that is gone without this name, and none where it keeps another.
+fn lost_by<'a>(row: &'a Row, name: &Name) -> &'a [Extent]
+    ensures { result.now ≡ lost_by name.now (Some row.now) }
+{
+    if keeps_name(row.entry().names.items(), slice::from_ref(name)) {
+        &[]
+    } else {
+        row.entry().extents.items()
     }
 }
 

@@ -9,6 +9,13 @@ use crate::table::FileTable;
 use record_model::{Extent, FileEntry, Name};
 
 impl FileTable {
+    /// The greatest id that was given since the mount, or that a file had then.
+    pub fn greatest(&self) -> u64
+        ensures { result ≡ self.now.greatest }
+    {
+        self.greatest
+    }
+
     /// The id of the file that has this name; `None` exactly where no file has it.
     pub fn find(&self, name: &Name) -> Option<u64>
         ensures { result ≡ id_named name.now self.now.rows }

@@ -5,11 +5,11 @@ ghost use Rattle.log_model.specs.FileTable.{grown, is_among, is_named, size_of};
 ghost use Rattle.log_model.specs.FileTree.{renamed};
 ghost use Rattle.fs_model.specs.FsState.{mounted_row};
 ghost use Rattle.fs_model.specs.FileSteps.{moved, note, shown_row};
-ghost use Rattle.fs_model.specs.TreeSteps.{with_names};
+ghost use Rattle.fs_model.specs.TreeSteps.{cleared, with_names};
 ghost use Rattle.extent_map.specs.Lookups.{extents_of};
 ghost use Rattle.extent_map.specs.Changes.{recorded_row, joined_row};
 ghost use Rattle.extent_map.specs.Naming.{without_names};
-ghost use Rattle.extent_map.specs.Sound.{IsSound};
+ghost use Rattle.extent_map.specs.Sound.{IsRow, IsSound};
 
 use crate::copies::{copy_entry, size_of};
 use crate::extents::{add_extent, joined, room_for};
@@ -17,7 +17,7 @@ use crate::moves::moved_extents;
 use crate::name_lists::{keeps_name, names_left, renamed, with_name};
 use crate::room::Room;
 use fs_model::Move;
-use record_model::{Extent, Extents, FileEntry, Name, Names};
+use record_model::{Extent, Extents, FileEntry, NO_ACTIVE, Name, Names};
 use std::alloc::{AllocError, Global};
 use std::marker::Model;
 use std::mem;
@@ -68,6 +68,13 @@ impl Row {
         ensures { result ≡ self.now.entry.id }
     {
         self.entry.id
+    }
+
+    /// What holds of every row.
+    pub(crate) fn valid(&self)
+        ensures { IsRow self.now }
+    {
+        let _ = &self.entry;
     }
 
     /// The recorded entry.
@@ -222,6 +229,13 @@ impl Row {
         let names = mem::replace(&mut self.entry.names, Names::from_vec(Vec::new(alloc)));
         self.entry.names = names_left(names, taken);
         true
+    }
+
+    /// Takes the recovery point away.
+    pub(crate) fn clear_point(&mut self)
+        ensures { self.new ≡ cleared self.old }
+    {
+        self.entry.active = NO_ACTIVE;
     }
 
     /// Moves the recorded extents that start where one of these moves begins.
