@@ -11,6 +11,7 @@ pub mod Formatted
 pub mod Closing
 pub mod Rolled
 pub mod LoneLogs
+pub mod KeptData
 pub mod RollFacts
 pub mod SelectedFacts
 pub mod RollSelects

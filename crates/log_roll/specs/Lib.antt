@@ -4,6 +4,7 @@ pub mod Rests
 pub mod Choosing
 pub mod Refusals
 pub mod Beginnings
+pub mod DataKept
 pub mod DeviceSteps
 pub mod Resets
 pub mod NewLog

@@ -34,4 +34,4 @@ pub use formatting::format;
 pub use log_model::{Chosen, Damage, DamageWhy};
 pub use meta_log::LogError;
 pub use roll_error::RollError;
-pub use rolling::{roll, roll_with};
+pub use rolling::{roll, roll_refusal, roll_with};

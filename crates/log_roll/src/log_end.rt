@@ -4,6 +4,7 @@ ghost use Rattle.zone_image.specs.Changes.{finished};
 ghost use Rattle.zone_image.specs.Infos.{active_zones, info_at, infos_finished};
 ghost use Rattle.zone_image.specs.Moments.{PassedByFinish};
 ghost use Rattle.log_model.specs.LogScan.{blocks_of};
+ghost use Rattle.log_roll.specs.DataKept.{KeepsData};
 ghost use Rattle.log_roll.specs.DeviceSteps.{ChangesDevice};
 ghost use Rattle.log_roll.specs.Rolling.{PassedByClose, PassedByEnd, closed, ended, gets_end, infos_closed, infos_ended};
 
@@ -32,6 +33,7 @@ fn end_log<D: ZonedDevice>(
     ensures image { OnOk result (D.tells → D.image dev.new ≡ ended can_end zone (D.image dev.old)) }
     ensures device { ChangesDevice D.known D.geometry D.tells D.image D.tick D.since D.faults D.failed_changes dev.old dev.new (IsErr result)
         (PassedByEnd can_end zone (D.image dev.old)) }
+    ensures data_kept { zone < 3 → KeepsData D.infos D.tells D.image dev.old dev.new }
     ensures memory { vec_capacity bytes.old ≤ vec_capacity bytes.new }
 {
     let info = report(dev, zone)?;
@@ -57,6 +59,7 @@ fn end_with<D: ZonedDevice>(
     ensures image { OnOk result (D.tells → D.image dev.new ≡ ended can_end zone (D.image dev.old)) }
     ensures device { ChangesDevice D.known D.geometry D.tells D.image D.tick D.since D.faults D.failed_changes dev.old dev.new (IsErr result)
         (PassedByEnd can_end zone (D.image dev.old)) }
+    ensures data_kept { zone < 3 → KeepsData D.infos D.tells D.image dev.old dev.new }
     ensures memory { vec_capacity bytes.old ≤ vec_capacity bytes.new }
 {
     if gets_end(geometry.capacity, can_end, info) {
@@ -80,6 +83,7 @@ fn seal<D: ZonedDevice>(dev: &mut D, zone: u32) -> Result<(), DevFault>
     ensures image { OnOk result (D.tells → D.image dev.new ≡ finished (D.image dev.old) zone) }
     ensures device { ChangesDevice D.known D.geometry D.tells D.image D.tick D.since D.faults D.failed_changes dev.old dev.new (IsErr result)
         (PassedByFinish (D.image dev.old) zone) }
+    ensures data_kept { zone < 3 → KeepsData D.infos D.tells D.image dev.old dev.new }
 {
     let info = report(dev, zone)?;
     seal_with(dev, zone, info)
@@ -94,6 +98,7 @@ fn seal_with<D: ZonedDevice>(dev: &mut D, zone: u32, info: ZoneInfo) -> Result<(
     ensures image { OnOk result (D.tells → D.image dev.new ≡ finished (D.image dev.old) zone) }
     ensures device { ChangesDevice D.known D.geometry D.tells D.image D.tick D.since D.faults D.failed_changes dev.old dev.new (IsErr result)
         (PassedByFinish (D.image dev.old) zone) }
+    ensures data_kept { zone < 3 → KeepsData D.infos D.tells D.image dev.old dev.new }
 {
     if info.sealed {
         return Ok(());
@@ -118,6 +123,7 @@ pub(crate) fn close_log<D: ZonedDevice>(
     ensures image { OnOk result (D.tells → D.image dev.new ≡ closed can_end zone (D.image dev.old)) }
     ensures device { ChangesDevice D.known D.geometry D.tells D.image D.tick D.since D.faults D.failed_changes dev.old dev.new (IsErr result)
         (PassedByClose can_end zone (D.image dev.old)) }
+    ensures data_kept { zone < 3 → KeepsData D.infos D.tells D.image dev.old dev.new }
     ensures memory { vec_capacity bytes.old ≤ vec_capacity bytes.new }
 {
     end_log(dev, geometry, zone, can_end, bytes)?;

@@ -4,6 +4,7 @@ ghost use Rattle.zone_image.specs.Changes.{appended, chunks};
 ghost use Rattle.zone_image.specs.Infos.{info_at, active_zones, infos_appended, no_info};
 ghost use Rattle.zone_image.specs.Moments.{PassedByAppend};
 ghost use Rattle.log_model.specs.LogScan.{blocks_of, record_blocks, record_sum};
+ghost use Rattle.log_roll.specs.DataKept.{KeepsData};
 ghost use Rattle.log_roll.specs.DeviceSteps.{ChangesDevice};
 ghost use Rattle.log_roll.specs.NewLog.{PassedByNewLog, begun, infos_begun};
 
@@ -86,6 +87,7 @@ fn append_blocks<D: ZonedDevice>(
     ensures image { OnOk result (D.tells → D.image dev.new ≡ appended (D.image dev.old) zone (chunks block count bytes.now)) }
     ensures device { ChangesDevice D.known D.geometry D.tells D.image D.tick D.since D.faults D.failed_changes dev.old dev.new (IsErr result)
         (PassedByAppend (D.image dev.old) zone (chunks block count bytes.now)) }
+    ensures data_kept { zone < 3 → KeepsData D.infos D.tells D.image dev.old dev.new }
 {
     append(dev, zone, bytes)
 }
@@ -111,6 +113,7 @@ pub(crate) fn write_record<D: ZonedDevice>(
     ensures image { OnOk result (D.tells → D.image dev.new ≡ appended (D.image dev.old) zone (record_blocks geometry.now.block payload.now)) }
     ensures device { ChangesDevice D.known D.geometry D.tells D.image D.tick D.since D.faults D.failed_changes dev.old dev.new (IsErr result)
         (PassedByAppend (D.image dev.old) zone (record_blocks geometry.now.block payload.now)) }
+    ensures data_kept { zone < 3 → KeepsData D.infos D.tells D.image dev.old dev.new }
     ensures memory { vec_capacity bytes.old ≤ vec_capacity bytes.new }
 {
     let block = geometry.block;
@@ -146,6 +149,7 @@ pub(crate) fn begin_log<D: ZonedDevice>(
         (record_blocks geometry.now.block snapshot.now) (D.image dev.old)) }
     ensures device { ChangesDevice D.known D.geometry D.tells D.image D.tick D.since D.faults D.failed_changes dev.old dev.new (IsErr result)
         (PassedByNewLog zone (record_blocks geometry.now.block superblock.now) (record_blocks geometry.now.block snapshot.now) (D.image dev.old)) }
+    ensures data_kept { zone < 3 → KeepsData D.infos D.tells D.image dev.old dev.new }
     ensures memory { vec_capacity bytes.old ≤ vec_capacity bytes.new }
 {
     write_record(dev, geometry, zone, superblock, bytes)?;

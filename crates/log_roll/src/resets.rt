@@ -3,6 +3,7 @@ ghost use Rattle.std.specs.Prelude.{◌≡◌, ◌-◌, ◌<◌, ◌≤◌, OnOk
 ghost use Rattle.zone_image.specs.Changes.{emptied};
 ghost use Rattle.zone_image.specs.Infos.{info_at, infos_emptied};
 ghost use Rattle.zone_image.specs.Moments.{PassedByReset};
+ghost use Rattle.log_roll.specs.DataKept.{KeepsData};
 ghost use Rattle.log_roll.specs.DeviceSteps.{ChangesDevice};
 ghost use Rattle.log_roll.specs.Resets.{CrashesMetadata, PassedByThreeResets, PassedByTwoResets, cleared, emptied_three, emptied_two, infos_cleared, infos_emptied_three, infos_emptied_two};
 
@@ -20,6 +21,7 @@ pub(crate) fn clear<D: ZonedDevice>(dev: &mut D, zone: u32) -> Result<(), DevFau
     ensures infos { OnOk result (D.infos dev.new ≡ infos_emptied (D.infos dev.old) zone) }
     ensures image { OnOk result (D.tells → D.image dev.new ≡ emptied (D.image dev.old) zone) }
     ensures device { ChangesDevice D.known D.geometry D.tells D.image D.tick D.since D.faults D.failed_changes dev.old dev.new (IsErr result) (PassedByReset (D.image dev.old) zone) }
+    ensures data_kept { zone < 3 → KeepsData D.infos D.tells D.image dev.old dev.new }
 {
     let info = report(dev, zone)?;
     reset_used(dev, zone, info)
@@ -33,6 +35,7 @@ fn reset_used<D: ZonedDevice>(dev: &mut D, zone: u32, info: ZoneInfo) -> Result<
     ensures infos { OnOk result (D.infos dev.new ≡ infos_emptied (D.infos dev.old) zone) }
     ensures image { OnOk result (D.tells → D.image dev.new ≡ emptied (D.image dev.old) zone) }
     ensures device { ChangesDevice D.known D.geometry D.tells D.image D.tick D.since D.faults D.failed_changes dev.old dev.new (IsErr result) (PassedByReset (D.image dev.old) zone) }
+    ensures data_kept { zone < 3 → KeepsData D.infos D.tells D.image dev.old dev.new }
 {
     if info.written == 0 && !info.sealed {
         return Ok(());
@@ -53,6 +56,7 @@ pub(crate) fn clear_two<D: ZonedDevice>(
     ensures image { OnOk result (D.tells → D.image dev.new ≡ emptied_two (D.image dev.old) first second) }
     ensures device { ChangesDevice D.known D.geometry D.tells D.image D.tick D.since D.faults D.failed_changes dev.old dev.new (IsErr result)
         (PassedByTwoResets first second (D.image dev.old)) }
+    ensures data_kept { first < 3 → second < 3 → KeepsData D.infos D.tells D.image dev.old dev.new }
 {
     clear(dev, first)?;
     clear(dev, second)

@@ -3,6 +3,7 @@ ghost use Rattle.std.specs.Prelude.{◌≡◌, ◌+◌, ◌*◌, ◌^◌, ◌<�
 ghost use Rattle.zone_image.specs.Changes.{emptied, synced};
 ghost use Rattle.zone_image.specs.Infos.{active_zones, info_at, infos_emptied, no_info};
 ghost use Rattle.log_model.specs.LogScan.{blocks_of, record_blocks};
+ghost use Rattle.log_roll.specs.DataKept.{KeepsData};
 ghost use Rattle.log_roll.specs.DeviceSteps.{ChangesDevice};
 ghost use Rattle.log_roll.specs.NewLog.{begun, infos_begun};
 ghost use Rattle.log_roll.specs.Resets.{emptied_two, infos_emptied_two};
@@ -25,6 +26,7 @@ fn start_roll<D: ZonedDevice>(dev: &mut D, first: u32, second: u32) -> Result<()
     ensures image { OnOk result (D.tells → D.image dev.new ≡ emptied_two (synced (D.image dev.old)) first second) }
     ensures device { ChangesDevice D.known D.geometry D.tells D.image D.tick D.since D.faults D.failed_changes dev.old dev.new (IsErr result)
         (PassedByStart first second (D.image dev.old)) }
+    ensures data_kept { first < 3 → second < 3 → KeepsData D.infos D.tells D.image dev.old dev.new }
 {
     sync(dev)?;
     clear_two(dev, first, second)
@@ -64,6 +66,7 @@ fn close_old<D: ZonedDevice>(
     ensures image { OnOk result (D.tells → D.image dev.new ≡ old_closed can_end zone (D.image dev.old)) }
     ensures device { ChangesDevice D.known D.geometry D.tells D.image D.tick D.since D.faults D.failed_changes dev.old dev.new (IsErr result)
         (PassedByOld can_end zone (D.image dev.old)) }
+    ensures data_kept { KeepsData D.infos D.tells D.image dev.old dev.new }
     ensures memory { vec_capacity bytes.old ≤ vec_capacity bytes.new }
 {
     start_roll(dev, next_zone(zone), third_zone(zone))?;
@@ -96,6 +99,7 @@ fn write_new<D: ZonedDevice>(
         (record_blocks geometry.now.block snapshot.now) (D.image dev.old))) }
     ensures device { ChangesDevice D.known D.geometry D.tells D.image D.tick D.since D.faults D.failed_changes dev.old dev.new (IsErr result)
         (PassedByWrite zone (record_blocks geometry.now.block superblock.now) (record_blocks geometry.now.block snapshot.now) (D.image dev.old)) }
+    ensures data_kept { zone < 3 → KeepsData D.infos D.tells D.image dev.old dev.new }
     ensures memory { vec_capacity bytes.old ≤ vec_capacity bytes.new }
 {
     begin_log(dev, geometry, zone, superblock, snapshot, bytes)?;
@@ -129,6 +133,7 @@ fn replace_old<D: ZonedDevice>(
         (record_blocks geometry.now.block snapshot.now) (D.image dev.old))) zone) }
     ensures device { ChangesDevice D.known D.geometry D.tells D.image D.tick D.since D.faults D.failed_changes dev.old dev.new (IsErr result)
         (PassedByReplace zone (record_blocks geometry.now.block superblock.now) (record_blocks geometry.now.block snapshot.now) (D.image dev.old)) }
+    ensures data_kept { KeepsData D.infos D.tells D.image dev.old dev.new }
     ensures memory { vec_capacity bytes.old ≤ vec_capacity bytes.new }
 {
     let next = next_zone(zone);
@@ -164,6 +169,7 @@ pub(crate) fn write_roll<D: ZonedDevice>(
         ++ record_blocks geometry.now.block snapshot.now)) }
     ensures device { ChangesDevice D.known D.geometry D.tells D.image D.tick D.since D.faults D.failed_changes dev.old dev.new (IsErr result)
         (PassedByRoll can_end zone (record_blocks geometry.now.block superblock.now) (record_blocks geometry.now.block snapshot.now) (D.image dev.old)) }
+    ensures data_kept { KeepsData D.infos D.tells D.image dev.old dev.new }
     ensures memory { vec_capacity bytes.old ≤ vec_capacity bytes.new }
 {
     match close_old(dev, geometry, zone, can_end, bytes) {

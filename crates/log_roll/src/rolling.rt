@@ -4,6 +4,7 @@ ghost use Rattle.zone_image.specs.Infos.{active_zones};
 ghost use Rattle.superblock_core.specs.Superblock.{superblock_bytes};
 ghost use Rattle.log_model.specs.LogScan.{blocks_of, record_blocks};
 ghost use Rattle.log_model.specs.LogSelection.{selected_log};
+ghost use Rattle.log_roll.specs.DataKept.{KeepsData};
 ghost use Rattle.log_roll.specs.DeviceSteps.{ChangesDevice};
 ghost use Rattle.log_roll.specs.FormatLeaves.{HasNewLog};
 ghost use Rattle.log_roll.specs.RollLeaves.{LeftByRoll};
@@ -51,8 +52,9 @@ fn next_superblock(old: &Chosen) -> Superblock
     }
 }
 
-// Why the log can't be rolled with a snapshot of this length, by what is known before.
-fn refusal(geometry: &Geometry, old: &Chosen, len: u64) -> Result<(), RollError>
+/// Why a log can't be rolled with a snapshot of so many bytes, by what is known before: `SequenceEnd` where no higher
+/// sequence is left, and else `MetaFull` where superblock, snapshot and two more blocks don't fit into a zone.
+pub fn roll_refusal(geometry: &Geometry, old: &Chosen, len: u64) -> Result<(), RollError>
     requires block_size { (geometry.now.block ≡ 512) ⊎ (geometry.now.block ≡ 4096) }
     requires fits { len < 2 ^ 63 }
     ensures { result ≡ roll_refusal geometry.now old.now len }
@@ -118,6 +120,7 @@ fn roll_written<D: ZonedDevice>(
     ensures selects { OnOk result (D.tells → selected_log (D.image dev.new) ≡ Ok (next_chosen old.now)) }
     ensures device { ChangesDevice D.known D.geometry D.tells D.image D.tick D.since D.faults D.failed_changes dev.old dev.new (IsErrOf result RollError.DevFault)
         (LeftByRoll old.now snapshot.now (D.image dev.old)) }
+    ensures data_kept { KeepsData D.infos D.tells D.image dev.old dev.new }
     ensures memory { vec_capacity bytes.old ≤ vec_capacity bytes.new }
 {
     let superblock = next_superblock(old);
@@ -170,10 +173,11 @@ pub fn roll_with<D: ZonedDevice>(
 
     ensures device { ChangesDevice D.known D.geometry D.tells D.image D.tick D.since D.faults D.failed_changes dev.old dev.new (IsErrOf result RollError.DevFault)
         (LeftByRoll old.now snapshot.now (D.image dev.old)) }
+    ensures data_kept { KeepsData D.infos D.tells D.image dev.old dev.new }
     ensures same_buffer { buffer.new ≡ buffer.old }
 {
     let _greatest = old.greatest;
-    match refusal(geometry, old, snapshot.len() as u64) {
+    match roll_refusal(geometry, old, snapshot.len() as u64) {
         Ok(()) => roll_written(dev, geometry, old, snapshot, &mut buffer.bytes),
         Err(why) => Err(why),
     }
@@ -209,6 +213,7 @@ fn roll_taking<D: ZonedDevice>(
 
     ensures device { ChangesDevice D.known D.geometry D.tells D.image D.tick D.since D.faults D.failed_changes dev.old dev.new (IsErrOf result RollError.DevFault)
         (LeftByRoll old.now snapshot.now (D.image dev.old)) }
+    ensures data_kept { KeepsData D.infos D.tells D.image dev.old dev.new }
 {
     match RollBuffer::new(alloc, geometry, snapshot.len() as u64) {
         Ok(mut buffer) => roll_with(dev, geometry, old, snapshot, &mut buffer),
@@ -223,7 +228,8 @@ fn roll_taking<D: ZonedDevice>(
 ///
 /// `SequenceEnd` comes exactly where no higher sequence is left, and else `MetaFull` exactly where superblock,
 /// snapshot and two more blocks don't fit into a zone. After these and `NoMemory` nothing was done. `DevFault` comes
-/// only where the device's count of faults rose.
+/// only where the device's count of faults rose. Whatever the answer, the data zones have the blocks, numbers and
+/// seals that they had (clause `data_kept`).
 pub fn roll<D: ZonedDevice>(
     alloc: Global,
     dev: &mut D,
@@ -253,8 +259,9 @@ pub fn roll<D: ZonedDevice>(
 
     ensures device { ChangesDevice D.known D.geometry D.tells D.image D.tick D.since D.faults D.failed_changes dev.old dev.new (IsErrOf result RollError.DevFault)
         (LeftByRoll old.now snapshot.now (D.image dev.old)) }
+    ensures data_kept { KeepsData D.infos D.tells D.image dev.old dev.new }
 {
-    match refusal(geometry, old, snapshot.len() as u64) {
+    match roll_refusal(geometry, old, snapshot.len() as u64) {
         Ok(()) => roll_taking(alloc, dev, geometry, old, snapshot),
         Err(why) => Err(why),
     }

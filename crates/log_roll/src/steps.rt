@@ -4,6 +4,7 @@ ghost use Rattle.zone_image.specs.Image.{IsCrash};
 ghost use Rattle.zone_image.specs.Changes.{blocks_in, appended, finished, emptied, synced};
 ghost use Rattle.zone_image.specs.Infos.{info_at, active_zones, infos_appended, infos_finished, infos_emptied};
 ghost use Rattle.zone_image.specs.Moments.{PassedByAppend, PassedByFinish, PassedByReset};
+ghost use Rattle.log_roll.specs.DataKept.{KeepsData};
 ghost use Rattle.log_roll.specs.DeviceSteps.{ChangesDevice};
 
 use zone_image::ZoneInfo;
@@ -17,6 +18,7 @@ pub(crate) fn report<D: ZonedDevice>(dev: &mut D, zone: u32) -> Result<ZoneInfo,
     ensures infos { D.infos dev.new ≡ D.infos dev.old }
     ensures image { D.tells → D.image dev.new ≡ D.image dev.old }
     ensures device { ChangesDevice D.known D.geometry D.tells D.image D.tick D.since D.faults D.failed_changes dev.old dev.new (IsErr result) (IsCrash (D.image dev.old)) }
+    ensures data_kept { KeepsData D.infos D.tells D.image dev.old dev.new }
 {
     dev.report(zone)
 }
@@ -27,6 +29,7 @@ pub(crate) fn sync<D: ZonedDevice>(dev: &mut D) -> Result<(), DevFault>
     ensures infos { D.infos dev.new ≡ D.infos dev.old }
     ensures image { OnOk result (D.tells → D.image dev.new ≡ synced (D.image dev.old)) }
     ensures device { ChangesDevice D.known D.geometry D.tells D.image D.tick D.since D.faults D.failed_changes dev.old dev.new (IsErr result) (IsCrash (D.image dev.old)) }
+    ensures data_kept { KeepsData D.infos D.tells D.image dev.old dev.new }
 {
     dev.sync()
 }
@@ -38,6 +41,7 @@ pub(crate) fn reset<D: ZonedDevice>(dev: &mut D, zone: u32) -> Result<(), DevFau
     ensures infos { OnOk result (D.infos dev.new ≡ infos_emptied (D.infos dev.old) zone) }
     ensures image { OnOk result (D.tells → D.image dev.new ≡ emptied (D.image dev.old) zone) }
     ensures device { ChangesDevice D.known D.geometry D.tells D.image D.tick D.since D.faults D.failed_changes dev.old dev.new (IsErr result) (PassedByReset (D.image dev.old) zone) }
+    ensures data_kept { zone < 3 → KeepsData D.infos D.tells D.image dev.old dev.new }
 {
     dev.reset(zone)
 }
@@ -49,6 +53,7 @@ pub(crate) fn finish<D: ZonedDevice>(dev: &mut D, zone: u32) -> Result<(), DevFa
     ensures infos { OnOk result (D.infos dev.new ≡ infos_finished (D.infos dev.old) zone) }
     ensures image { OnOk result (D.tells → D.image dev.new ≡ finished (D.image dev.old) zone) }
     ensures device { ChangesDevice D.known D.geometry D.tells D.image D.tick D.since D.faults D.failed_changes dev.old dev.new (IsErr result) (PassedByFinish (D.image dev.old) zone) }
+    ensures data_kept { zone < 3 → KeepsData D.infos D.tells D.image dev.old dev.new }
 {
     dev.finish(zone)
 }
@@ -69,6 +74,7 @@ pub(crate) fn append<D: ZonedDevice>(dev: &mut D, zone: u32, bytes: &[u8]) -> Re
     ensures image { OnOk result (D.tells → D.image dev.new ≡ appended (D.image dev.old) zone (blocks_in (D.geometry dev.old) bytes.now)) }
     ensures device { ChangesDevice D.known D.geometry D.tells D.image D.tick D.since D.faults D.failed_changes dev.old dev.new (IsErr result)
         (PassedByAppend (D.image dev.old) zone (blocks_in (D.geometry dev.old) bytes.now)) }
+    ensures data_kept { zone < 3 → KeepsData D.infos D.tells D.image dev.old dev.new }
 {
     match dev.append(zone, bytes) {
         Ok(_) => Ok(()),

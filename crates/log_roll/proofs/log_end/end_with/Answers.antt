@@ -5,6 +5,7 @@ use Rattle.log_roll.specs.Rolling.{PassedByEnd, end_blocks, ended}
 use Rattle.log_roll.proofs.DeviceCalls.{done_as}
 use Rattle.log_roll.proofs.Blanking.{ok_then}
 use Rattle.log_roll.proofs.Closing.{may_end, told_info, ended_true, ended_false}
+use Rattle.log_roll.proofs.KeptData.{kept_same}
 use Rattle.log_roll.proofs.log_end.end_with.Goals as goal
 
 pub returns-then-gets_end-clause-image : goal.returns-then-gets_end-clause-image
@@ -38,3 +39,6 @@ returns-then-gets_end-clause-device g c =
       may_end c.args.geometry.now.capacity c.args.can_end c.args.info (sym c.gets_end.ensures ∙ c.if-gets_end.true),
       subst (λ (s : Geometry). PassedByAppend (D.image dev) c.args.zone (end_blocks s.block) j) (c.requires.same_geometry ∙ sym (m.told dev told c.requires.is_known).shape) passed,
     ))
+
+pub returns-clause-data_kept : goal.returns-clause-data_kept
+returns-clause-data_kept g c = λ below. kept_same c.args.dev.now

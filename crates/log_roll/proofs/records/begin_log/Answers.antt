@@ -7,6 +7,7 @@ use Rattle.zone_image.specs.Moments.{PassedByAppend}
 use Rattle.log_model.specs.LogScan.{blocks_of, record_blocks}
 use Rattle.log_roll.proofs.DeviceCalls.{both_done}
 use Rattle.log_roll.proofs.ZoneChanges.{begun_info, record_has_block}
+use Rattle.log_roll.proofs.KeptData.{both_kept}
 use Rattle.log_roll.proofs.records.begin_log.Goals as goal
 
 pub write_record-requires-2-clause-unsealed : goal.write_record-requires-2-clause-unsealed
@@ -52,3 +53,6 @@ returns-clause-device g c =
     let first = record_blocks shape.block c.args.superblock.now in
     both_done g.met.D.ZonedDevice.moments (λ i. PassedByAppend i c.args.zone first) (λ i. PassedByAppend i c.args.zone (record_blocks shape.block c.args.snapshot.now))
     (λ i. appended i c.args.zone first) c.in_ok-write_record.ensures.device (λ failed. cc) c.in_ok-write_record.ensures.image c.write_record-2.ensures.device
+
+pub returns-clause-data_kept : goal.returns-clause-data_kept
+returns-clause-data_kept g c = λ below. both_kept (c.in_ok-write_record.ensures.data_kept below) (c.write_record-2.ensures.data_kept below)

@@ -1,6 +1,7 @@
 use Rattle.std.proofs.Common.{inl, subst}
 use Rattle.zone_image.specs.Moments.{PassedByReset}
 use Rattle.log_roll.proofs.DeviceCalls.{done_then}
+use Rattle.log_roll.proofs.KeptData.{both_kept}
 use Rattle.log_roll.proofs.resets.clear.Goals as goal
 
 pub returns-clause-device : goal.returns-clause-device
@@ -9,3 +10,6 @@ returns-clause-device g c =
     let dev = c.args.dev.now in
     done_then g.met.D.ZonedDevice.moments (PassedByReset (D.image dev) c.args.zone) c.in_ok-info.ensures.device (λ failed. cc) c.reset_used.ensures.device
     (λ j told crash. inl crash) (λ j told passed. subst (λ i. PassedByReset i c.args.zone j) (c.report.ensures.image told) passed)
+
+pub returns-clause-data_kept : goal.returns-clause-data_kept
+returns-clause-data_kept g c = λ below. both_kept c.report.ensures.data_kept (c.reset_used.ensures.data_kept below)

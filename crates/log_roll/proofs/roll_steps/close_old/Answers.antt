@@ -7,6 +7,7 @@ use Rattle.log_roll.specs.Resets.{emptied_two, infos_emptied_two}
 use Rattle.log_roll.specs.Rolling.{PassedByClose, PassedByStart, next_zone, third_zone}
 use Rattle.log_roll.proofs.DeviceCalls.{both_done}
 use Rattle.log_roll.proofs.Rolled.{active_started}
+use Rattle.log_roll.proofs.KeptData.{both_kept}
 use Rattle.log_roll.proofs.roll_steps.close_old.Goals as goal
 
 pub close_log-requires-clause-active : goal.close_log-requires-clause-active
@@ -33,3 +34,6 @@ returns-clause-device g c =
     (subst (λ b. ChangesDevice D.known D.geometry D.tells D.image D.tick D.since D.faults D.failed_changes c.args.dev.now c.start_roll.new.dev (false ≡ true) (PassedByStart c.next_zone.result b (D.image c.args.dev.now))) c.third_zone.ensures
     c.in_ok-start_roll.ensures.device))
     (λ failed. cc) made c.close_log.ensures.device
+
+pub returns-clause-data_kept : goal.returns-clause-data_kept
+returns-clause-data_kept g c = both_kept (c.in_ok-start_roll.ensures.data_kept (omega (arith, c.next_zone.ensures)) (omega (arith, c.third_zone.ensures))) (c.close_log.ensures.data_kept c.requires.is_metadata)

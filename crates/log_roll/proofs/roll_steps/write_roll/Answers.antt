@@ -10,6 +10,7 @@ use Rattle.log_roll.proofs.DeviceCalls.{both_done, first_done}
 use Rattle.log_roll.proofs.Blanking.{ok_then}
 use Rattle.log_roll.proofs.ZoneChanges.{zones_of_image}
 use Rattle.log_roll.proofs.Rolled.{active_closed, next_empty, infos_rolled, image_rolled}
+use Rattle.log_roll.proofs.KeptData.{both_kept}
 use Rattle.log_roll.proofs.roll_steps.write_roll.Goals as goal
 
 pub replace_old-requires-clause-empty : goal.replace_old-requires-clause-empty
@@ -75,3 +76,6 @@ returns-in-Err-clause-device g c =
     let second = record_blocks shape.block c.args.snapshot.now in
     first_done g.met.D.ZonedDevice.moments (PassedByOld c.args.can_end c.args.zone) (PassedByReplace c.args.zone first second) (old_closed c.args.can_end c.args.zone)
     c.in-Err.ensures.device
+
+pub returns-in-Ok-clause-data_kept : goal.returns-in-Ok-clause-data_kept
+returns-in-Ok-clause-data_kept g c = both_kept c.in-Ok.ensures.data_kept c.replace_old.ensures.data_kept

@@ -1,6 +1,7 @@
 use Rattle.log_roll.specs.RollLeaves.{LeftByRoll}
 use Rattle.log_roll.proofs.DeviceCalls.{done_as, nothing_done}
 use Rattle.log_roll.proofs.RollCrash.{crash_is_old}
+use Rattle.log_roll.proofs.KeptData.{kept_same}
 use Rattle.log_roll.proofs.rolling.roll_taking.Goals as goal
 
 pub returns-in-Err-clause-device : goal.returns-in-Err-clause-device
@@ -10,3 +11,6 @@ returns-in-Err-clause-device g c =
     done_as g.met.D.ZonedDevice.moments _ (LeftByRoll c.args.old.now c.args.snapshot.now (D.image dev))
     (nothing_done g.met.D.ZonedDevice.moments dev (LeftByRoll c.args.old.now c.args.snapshot.now (D.image dev)) c.requires.is_known (λ j crash. crash_is_old c.args.old.now c.args.snapshot.now (D.image dev) j crash))
     (λ none. absurd none) (λ fault. cc) (λ j told p. p)
+
+pub returns-in-Err-clause-data_kept : goal.returns-in-Err-clause-data_kept
+returns-in-Err-clause-data_kept g c = kept_same c.args.dev.now
