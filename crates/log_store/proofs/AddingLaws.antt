@@ -1,11 +1,11 @@
 -- A record that is added to the log that counts.
-use Rattle.std.specs.Prelude.{◌≡◌, ◌⊎◌, ℕ, ◌^◌, ◌<◌, ◌≤◌, Bool, true, false, not, ◌&&◌, ◌||◌, List, [], ◌∷◌, ◌++◌, length, Result, Ok, IsTrue, refl}
+use Rattle.std.specs.Prelude.{◌≡◌, ℕ, Bool, true, false, not, ◌&&◌, ◌||◌, List, [], ◌∷◌, ◌++◌, length, Result, Ok, refl}
 use Rattle.std.specs.Str.{bytes_eq}
-use Rattle.std.proofs.Common.{◌∙◌, ap, sym, subst, inl, inr, arith}
+use Rattle.std.proofs.Common.{◌∙◌, ap, sym, subst, arith}
 use Rattle.std.proofs.lemmas.Bool.{and_parts, false_from_ne_true}
 use Rattle.std.proofs.lemmas.List.Folds.{list_any-append}
 use Rattle.std.proofs.lemmas.Slice.Eq.{bytes_eq-Decides}
-use Rattle.zone_image.specs.Image.{Image, IsCrash, is_valid, zone_at}
+use Rattle.zone_image.specs.Image.{Image, zone_at}
 use Rattle.zone_image.specs.Changes.{appended, synced}
 use Rattle.zone_image.specs.Infos.{IsValidImage}
 use Rattle.zone_image.specs.Moments.{PassedByAppend}
@@ -21,9 +21,7 @@ use Rattle.log_model.specs.LogScan.ScanEnd.{Clean, Torn, Bad}
 use Rattle.log_model.specs.LogSelection.{LogAt, chosen_of, selected_log}
 use Rattle.log_model.specs.FileTable.{Table, is_end}
 use Rattle.log_model.proofs.SelectedLog.{ok_is}
-use Rattle.crash_cover.specs.Pinned.{IsPinned}
 use Rattle.crash_cover.specs.AtRest.{IsAtRest, AddsRecord, with_record}
-use Rattle.crash_cover.specs.Recovery.{RecoversTable}
 use Rattle.crash_cover.proofs.RecordRecovery.{record_moment_recovers}
 use Rattle.crash_cover.proofs.StepLaws.{record_is_at_rest}
 use Rattle.log_roll.proofs.RollFacts.{some_payload}

@@ -1,5 +1,5 @@
 -- What is found again where the data zones of a crash stand.
-use Rattle.std.specs.Prelude.{◌≡◌, ℕ, zero, suc, ◌≤◌, Bool, true, false, not, ◌||◌, cond, List, [], ◌∷◌, ◌++◌, length, take, drop, map, nat_le, nat_lt, ◌&&◌, ◌==◌, refl}
+use Rattle.std.specs.Prelude.{◌≡◌, ℕ, zero, suc, ◌≤◌, Bool, true, false, not, ◌||◌, cond, List, [], ◌∷◌, ◌++◌, take, drop, map, nat_le, nat_lt, ◌&&◌, ◌==◌, refl}
 use Rattle.std.proofs.Common.{◌∙◌, ap, sym, subst, append-nil, arith}
 use Rattle.std.proofs.lemmas.Bool.{leb-true, eqb-false, and_parts}
 use Rattle.std.specs.List.{AllByRecursion, concat, list_all}
@@ -124,7 +124,7 @@ module _ (changed : ℕ → Bool) (k j : Image) (same : HaveSameData changed k j
       ∙ ap (λ files. file_in k e ∷ files) (tree_there es parts.1)
 
   -- with what is found again, too
-  found_tree : (es : Table) → IsValidImage k → Avoids changed k.geometry es → AllByRecursion (IsThere changed k) (all_extents es)
+  pub found_tree : (es : Table) → IsValidImage k → Avoids changed k.geometry es → AllByRecursion (IsThere changed k) (all_extents es)
       → tree_of j (map (recovered_entry j) es) ≡ tree_of k (map (recovered_entry k) es)
   found_tree es valid away there =
       ap (tree_of j) (data_decides_table changed k j es same away).found

@@ -1,3 +1,4 @@
+pub mod OtherData
 pub mod DataZones
 pub mod RollLaws
 pub mod SettledTables
@@ -6,3 +7,6 @@ pub mod ResetLaws
 pub mod AppendedImages
 pub mod RollCallLaws
 pub mod FewActive
+pub mod QuietImages
+pub mod SealedData
+pub mod SettlingLaws

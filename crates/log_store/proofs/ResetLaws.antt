@@ -1,10 +1,10 @@
 -- A data zone that is reset while the image is at rest.
-use Rattle.std.specs.Prelude.{◌≡◌, ℕ, ◌<◌, ◌≤◌, List, ◌==◌, refl}
+use Rattle.std.specs.Prelude.{ℕ, ◌<◌, ◌≤◌, List, ◌==◌, refl}
 use Rattle.std.proofs.Common.{ap, sym, subst, ⊎_elim, arith}
 use Rattle.std.proofs.lemmas.Bool.{eqb-false}
 use Rattle.zone_image.specs.declared.Geometry.{Geometry}
 use Rattle.zone_image.specs.declared.ZoneInfo.{ZoneInfo}
-use Rattle.zone_image.specs.Image.{Image, no_zone, zone_at}
+use Rattle.zone_image.specs.Image.{Image, no_zone}
 use Rattle.zone_image.specs.Changes.{emptied}
 use Rattle.zone_image.specs.Infos.{IsImage, IsPossible, IsValidImage}
 use Rattle.zone_image.specs.Moments.{PassedByReset}

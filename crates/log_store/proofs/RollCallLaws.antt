@@ -1,5 +1,5 @@
 -- A roll of the log of an image at rest, and a record that follows it.
-use Rattle.std.specs.Prelude.{◌≡◌, ◌⊎◌, ℕ, zero, suc, ◌+◌, ◌<◌, false, List, drop, Result, Ok, Err, OnOk, refl}
+use Rattle.std.specs.Prelude.{◌≡◌, ℕ, zero, suc, ◌+◌, ◌<◌, false, List, drop, Result, Ok, Err, OnOk, refl}
 use Rattle.std.proofs.Common.{◌∙◌, ap, sym, subst, ⊎_elim, inl, inr, arith}
 use Rattle.zone_image.specs.declared.Geometry.{Geometry}
 use Rattle.zone_image.specs.declared.ZoneInfo.{ZoneInfo}
@@ -9,13 +9,12 @@ use Rattle.record_model.specs.Decoding.{record_of}
 use Rattle.record_model.specs.declared.types.Record.TheVariants.{Snapshot}
 use Rattle.log_model.specs.declared.selection.Chosen.{Chosen}
 use Rattle.log_model.specs.LogScan.{record_blocks}
-use Rattle.log_model.specs.LogSelection.{LogAt, selected_log}
+use Rattle.log_model.specs.LogSelection.{LogAt}
 use Rattle.log_model.specs.FileTable.{Table}
 use Rattle.log_model.proofs.DecodedNames.{replay_makes_table}
 use Rattle.log_model.proofs.ReplayedSizes.{replayed_sizes_are_right}
 use Rattle.crash_cover.specs.SameData.{HaveSameData}
 use Rattle.crash_cover.specs.AtRest.{IsAtRest, with_record}
-use Rattle.crash_cover.specs.Recovery.{RecoversTable}
 use Rattle.crash_cover.proofs.PinnedTables.{pinned_is_kept}
 use Rattle.crash_cover.proofs.RestLaws.{avoids_nothing}
 use Rattle.log_roll.specs.RollLeaves.{LeftByRoll}

@@ -1,7 +1,7 @@
 -- Rolls of a log at rest.
-use Rattle.std.specs.Prelude.{◌≡◌, ◌≢◌, ◌⊎◌, ℕ, zero, suc, ◌<◌, ◌≤◌, false, List, [], ◌∷◌, ◌++◌, length, drop, map, Ok, refl, IsOk}
+use Rattle.std.specs.Prelude.{◌≡◌, ◌≢◌, ◌⊎◌, ℕ, zero, suc, ◌+◌, ◌<◌, ◌≤◌, false, List, [], ◌∷◌, length, drop, map, Ok, refl, IsOk}
 use Rattle.std.proofs.Common.{◌∙◌, ap, sym, subst, ⊎_elim, inl, inr, arith}
-use Rattle.zone_image.specs.Image.{Zone, Image, IsCrash, zone_at, zone_in}
+use Rattle.zone_image.specs.Image.{Image, zone_at, zone_in}
 use Rattle.zone_image.specs.Changes.{zone_synced, synced}
 use Rattle.zone_image.specs.Infos.{IsValidImage}
 use Rattle.record_model.specs.Numbers.{u32}
@@ -10,11 +10,10 @@ use Rattle.record_model.specs.FieldDecoding.{◌>>=◌}
 use Rattle.record_model.specs.declared.types.Record.TheVariants.{Snapshot, End}
 use Rattle.superblock_core.specs.Superblock.{superblock_bytes}
 use Rattle.log_model.specs.declared.selection.Chosen.{Chosen}
-use Rattle.log_model.specs.LogScan.{blocks_of, has_end}
+use Rattle.log_model.specs.LogScan.{blocks_of}
 use Rattle.log_model.specs.LogSelection.{LogAt, chosen_of}
 use Rattle.log_model.specs.FileTable.{Table, after_record, replay_log}
 use Rattle.log_model.specs.CrashLaws.{IsDurable}
-use Rattle.log_model.specs.AppendLaws.{IsSelectedOn}
 use Rattle.log_model.specs.MountedLogLaws.{HasTable, MountsTable}
 use Rattle.log_model.proofs.DecodedNames.{replay_makes_table}
 use Rattle.log_model.proofs.LogReplayLaws.{added_record_is_replayed}
@@ -88,8 +87,10 @@ rolled_durable i (suc (suc (suc n))) zero blocks less = omega arith
 rolled_durable i (suc (suc (suc n))) (suc zero) blocks less = omega arith
 rolled_durable i (suc (suc (suc n))) (suc (suc zero)) blocks less = omega arith
 
-pub roll_is_at_rest : RollIsAtRest
-roll_is_at_rest i j log greatest old snapshot blocks es next rest snap pinned rolled valid =
+-- a roll leaves an image at rest with the table of its snapshot, where that is a pinned one
+pub rolled_at_rest : (i j : Image) (old : Chosen) (snapshot : List ℕ) (blocks : List (List ℕ)) (next : Table) → IsValidImage i
+    → IsSnapshotOf snapshot next → IsPinned i next → IsRolled old snapshot blocks i j → IsValidImage j → IsAtRest j (new_log j.geometry old snapshot) (old.greatest + 1) next
+rolled_at_rest i j old snapshot blocks next was snap pinned rolled valid =
     let zone = next_zone old.zone in
     record {
       valid = valid;
@@ -97,8 +98,11 @@ roll_is_at_rest i j log greatest old snapshot blocks es next rest snap pinned ro
       metadata = λ m less. subst (λ k. IsDurable k m) (sym rolled.image) (rolled_durable i zone m blocks less);
       pinned =
           subst (λ k. IsPinned k next) (sym rolled.image)
-          (pinned_is_kept (λ _. false) i (rolled_image i zone blocks) next (rolled_data i zone blocks rest.valid) (avoids_nothing i next) pinned);
+          (pinned_is_kept (λ _. false) i (rolled_image i zone blocks) next (rolled_data i zone blocks was) (avoids_nothing i next) pinned);
     }
+
+pub roll_is_at_rest : RollIsAtRest
+roll_is_at_rest i j log greatest old snapshot blocks es next rest snap pinned rolled valid = rolled_at_rest i j old snapshot blocks next rest.valid snap pinned rolled valid
 
 -- each crash of an image at rest has a log that counts
 pub rest_has_logs : (i : Image) (log : LogAt) (greatest : ℕ) (es : Table) → IsAtRest i log greatest es → HasLogs i
@@ -120,7 +124,7 @@ kept_replay payloads more es some may h =
     may.payloads
 
 -- where the old log is kept, it has its table
-kept_table : (k j : Image) (log : LogAt) (greatest : ℕ) (es : Table) (keeps : KeepsLog k j) → HasTable k log greatest es
+pub kept_table : (k j : Image) (log : LogAt) (greatest : ℕ) (es : Table) (keeps : KeepsLog k j) → HasTable k log greatest es
     → HasTable j (record { zone = keeps.log.zone; superblock = keeps.log.superblock; scan = keeps.scan }) keeps.after es
 kept_table k j log greatest es keeps has =
     let pair : ◌≡◌ {A = LogAt × ℕ} (log, greatest) (keeps.log, keeps.before) = ok_is (sym has.selected ∙ keeps.was) in

@@ -1,5 +1,5 @@
 -- The table of an image of which nothing is pending, settled.
-use Rattle.std.specs.Prelude.{◌≡◌, ◌≢◌, ℕ, ◌+◌, ◌*◌, ◌≤◌, ◌<◌, Bool, true, false, not, ◌&&◌, ◌||◌, cond, List, [], ◌∷◌, ◌++◌, length, map, drop, Option, Some, None, nat_le, nat_lt, ◌==◌, if◌then◌else◌, refl}
+use Rattle.std.specs.Prelude.{◌≡◌, ◌≢◌, ℕ, ◌+◌, ◌*◌, ◌≤◌, Bool, true, false, not, ◌&&◌, ◌||◌, cond, List, [], ◌∷◌, ◌++◌, length, map, drop, Option, Some, None, nat_le, nat_lt, ◌==◌, if◌then◌else◌, refl}
 use Rattle.std.proofs.Common.{◌∙◌, ap, sym, subst, append-nil, arith}
 use Rattle.std.proofs.Math.Nat.{mul-le-mul_right}
 use Rattle.std.proofs.lemmas.Bool.{leb-true, le-leb, eq-eqb, eqb-true, and_parts, and_from}
@@ -9,7 +9,7 @@ use Rattle.zone_image.specs.Image.{Image, zone_at, zone_of, offset_of}
 use Rattle.zone_image.specs.Infos.{IsValidImage}
 use Rattle.record_model.specs.declared.types.Extent.{Extent}
 use Rattle.record_model.specs.declared.types.FileEntry.{FileEntry}
-use Rattle.log_model.specs.FileTable.{Table, file_of, is_named, shares_name, has_right_size, size_of}
+use Rattle.log_model.specs.FileTable.{Table, file_of, is_named, shares_name, size_of}
 use Rattle.log_model.specs.Frames.{no_active, bytes_of, frames_at, rest_at, is_recovery_point, recovered_extents}
 use Rattle.log_model.specs.Mounted.{is_written, overlap, all_extents, has_valid_recovery_point, broken_rule, recovered_entry, file_in, tree_of}
 use Rattle.log_model.specs.MountLaws.{SparseAlone}
@@ -18,11 +18,9 @@ use Rattle.log_model.specs.TableLaws.{IdsRise, IsTable, AreSized}
 use Rattle.log_model.proofs.DecodedNames.{replay_makes_table}
 use Rattle.log_model.proofs.ReplayedSizes.{replayed_sizes_are_right}
 use Rattle.log_model.proofs.ReplayLaws.{size_append}
-use Rattle.crash_cover.specs.Pinned.{is_durable, is_durable_point, IsPinned}
-use Rattle.crash_cover.specs.AtRest.{IsAtRest}
+use Rattle.crash_cover.specs.Pinned.{is_durable, is_durable_point}
 use Rattle.crash_cover.specs.FoundExtents.{IsWrittenIn}
 use Rattle.crash_cover.proofs.FoundLaws.{found_is_written}
-use Rattle.crash_cover.proofs.PinnedTables.{split_durable}
 use Rattle.log_store.specs.Settled.{without_point, settled, IsSettled, SettledTable}
 
 -- the entry of a file in the settled table
@@ -173,10 +171,11 @@ unbroken false shared valid h = cc
 unbroken true true valid h = cc
 unbroken true false valid h = (refl, refl)
 
-pub settled_table : SettledTable
-settled_table i log greatest es rest all =
-    let old = unbroken (list_all (is_written i) (all_extents es)) (overlap (all_extents (map (recovered_entry i) es))) (list_all (has_valid_recovery_point i) es) rest.pinned.unbroken in
-    let written = all_written i es rest.valid old.0 in
+-- where nothing is pending, a table that breaks no rule may be settled
+pub settled_unbroken : (i : Image) (es : Table) → IsValidImage i → IsTable es → AreSized es → broken_rule i es ≡ None → ((n : ℕ) → IsDurable i n) → IsSettled i es
+settled_unbroken i es valid table sized none all =
+    let old = unbroken (list_all (is_written i) (all_extents es)) (overlap (all_extents (map (recovered_entry i) es))) (list_all (has_valid_recovery_point i) es) none in
+    let written = all_written i es valid old.0 in
     let next : Table = settled i es in
     record {
       pinned = record {
@@ -186,12 +185,18 @@ settled_table i log greatest es rest all =
         unbroken = none_broken (list_all (is_written i) (all_extents next)) (overlap (all_extents (map (recovered_entry i) next))) (list_all (has_valid_recovery_point i) next)
             written (ap overlap (same_extents i es) ∙ old.1) (no_points i (is_recovery_point i) es);
       };
-      table = record {
-        ids = ids_rise i 0 es (replay_makes_table (drop 1 log.scan.payloads) es rest.table.table).ids;
-        named = all_named i es (replay_makes_table (drop 1 log.scan.payloads) es rest.table.table).named;
-        apart = settled_apart i es (replay_makes_table (drop 1 log.scan.payloads) es rest.table.table);
-      };
-      sized = all_sized i es (replayed_sizes_are_right (drop 1 log.scan.payloads) es rest.table.table);
+      table = record { ids = ids_rise i 0 es table.ids; named = all_named i es table.named; apart = settled_apart i es table };
+      sized = all_sized i es sized;
       tree = recorded_tree i es;
       mounts = same_tree i es;
     }
+
+pub settled_table : SettledTable
+settled_table i log greatest es rest all =
+    settled_unbroken i es rest.valid (replay_makes_table (drop 1 log.scan.payloads) es rest.table.table) (replayed_sizes_are_right (drop 1 log.scan.payloads) es rest.table.table)
+    rest.pinned.unbroken all
+
+-- a table that breaks no rule has its extents written
+pub unbroken_written : (i : Image) (es : Table) → broken_rule i es ≡ None → list_all (is_written i) (all_extents es) ≡ true
+unbroken_written i es none =
+    (unbroken (list_all (is_written i) (all_extents es)) (overlap (all_extents (map (recovered_entry i) es))) (list_all (has_valid_recovery_point i) es) none).0

@@ -1,5 +1,5 @@
 -- Records that are added to the log of an image at rest.
-use Rattle.std.specs.Prelude.{◌≡◌, ◌⊎◌, ℕ, ◌^◌, ◌<◌, false, List, length, Ok, ◌==◌}
+use Rattle.std.specs.Prelude.{◌≡◌, ◌⊎◌, ℕ, ◌^◌, ◌<◌, false, List, length, Ok}
 use Rattle.zone_image.specs.Image.{Image}
 use Rattle.record_model.specs.Decoding.{record_of}
 use Rattle.record_model.specs.declared.types.Record.{Record}

@@ -5,3 +5,5 @@ pub mod Room
 pub mod Adding
 pub mod Resetting
 pub mod RollCalls
+pub mod OtherData
+pub mod Settling

@@ -3,6 +3,7 @@ ghost use Rattle.std.specs.Prelude.{◌≡◌, ◌+◌, ◌<◌, ◌≤◌, true
 ghost use Rattle.zone_image.specs.Changes.{appended, synced};
 ghost use Rattle.zone_image.specs.Infos.{active_zones, info_at, infos_appended};
 ghost use Rattle.log_model.specs.LogSelection.{selected_log};
+ghost use Rattle.log_roll.specs.DataKept.{KeepsData};
 ghost use Rattle.log_roll.specs.DeviceSteps.{ChangesDevice};
 ghost use Rattle.log_store.specs.Adding.{GoesOn, LeftByRecord, RestsWithRecord};
 
@@ -17,7 +18,7 @@ use zoned_device::{DevFault, ZonedDevice};
 ///
 /// Whatever table the device had at rest, after Ok it is at rest with the table that the record makes, and the same
 /// log counts. A crash at any moment leaves the table before it, or the one after it (clause `device`). `DevFault`
-/// comes only where the device's count of faults rose.
+/// comes only where the device's count of faults rose. Whatever the answer, the data zones are kept (clause `data_kept`).
 pub fn add_record<D: ZonedDevice>(
     dev: &mut D,
     geometry: &Geometry,
@@ -40,6 +41,7 @@ pub fn add_record<D: ZonedDevice>(
     ensures selects { OnOk result (D.tells → GoesOn chosen.now added.now.blocks (D.image dev.old) (D.image dev.new)) }
     ensures device { ChangesDevice D.known D.geometry D.tells D.image D.tick D.since D.faults D.failed_changes dev.old dev.new (IsErr result)
         (LeftByRecord added.now.blocks (D.image dev.old)) }
+    ensures data_kept { KeepsData D.infos D.tells D.image dev.old dev.new }
 {
     match append(dev, geometry, chosen.zone, added) {
         Ok(()) => sync(dev),

@@ -1,10 +1,12 @@
 // The calls of a device that change its log or empty a zone, each with one clause on what it leaves and passes.
-ghost use Rattle.std.specs.Prelude.{◌≡◌, ◌+◌, ◌/◌, ◌%◌, ◌<◌, ◌≤◌, false, length, OnOk, IsErr};
+ghost use Rattle.std.specs.Prelude.{◌≡◌, ◌+◌, ◌/◌, ◌%◌, ◌<◌, ◌≤◌, false, length, OnOk, IsErr, ◌==◌};
 ghost use Rattle.zone_image.specs.Image.{IsCrash};
-ghost use Rattle.zone_image.specs.Changes.{appended, blocks_in, emptied, synced};
-ghost use Rattle.zone_image.specs.Infos.{IsValidImage, active_zones, info_at, infos_appended, infos_emptied};
-ghost use Rattle.zone_image.specs.Moments.{PassedByAppend, PassedByReset};
+ghost use Rattle.zone_image.specs.Changes.{appended, blocks_in, emptied, finished, synced};
+ghost use Rattle.zone_image.specs.Infos.{IsValidImage, active_zones, info_at, infos_appended, infos_emptied, infos_finished};
+ghost use Rattle.zone_image.specs.Moments.{PassedByAppend, PassedByFinish, PassedByReset};
+ghost use Rattle.log_roll.specs.DataKept.{KeepsData};
 ghost use Rattle.log_roll.specs.DeviceSteps.{ChangesDevice};
+ghost use Rattle.log_store.specs.OtherData.{KeepsBlocks, KeepsOtherData};
 
 use crate::spelled::SpelledRecord;
 use zone_image::Geometry;
@@ -16,6 +18,7 @@ pub(crate) fn sync<D: ZonedDevice>(dev: &mut D) -> Result<(), DevFault>
     ensures infos { D.infos dev.new ≡ D.infos dev.old }
     ensures image { OnOk result (D.tells → D.image dev.new ≡ synced (D.image dev.old)) }
     ensures device { ChangesDevice D.known D.geometry D.tells D.image D.tick D.since D.faults D.failed_changes dev.old dev.new (IsErr result) (IsCrash (D.image dev.old)) }
+    ensures data_kept { KeepsData D.infos D.tells D.image dev.old dev.new }
 {
     dev.sync()
 }
@@ -27,8 +30,21 @@ pub(crate) fn reset<D: ZonedDevice>(dev: &mut D, zone: u32) -> Result<(), DevFau
     ensures infos { OnOk result (D.infos dev.new ≡ infos_emptied (D.infos dev.old) zone) }
     ensures image { OnOk result (D.tells → D.image dev.new ≡ emptied (D.image dev.old) zone) }
     ensures device { ChangesDevice D.known D.geometry D.tells D.image D.tick D.since D.faults D.failed_changes dev.old dev.new (IsErr result) (PassedByReset (D.image dev.old) zone) }
+    ensures data_kept { KeepsOtherData D.infos D.tells D.image (λ n. n == zone) dev.old dev.new }
 {
     dev.reset(zone)
+}
+
+// Seals a zone.
+pub(crate) fn seal<D: ZonedDevice>(dev: &mut D, zone: u32) -> Result<(), DevFault>
+    requires is_known { D.known dev.old }
+    requires is_zone { zone < (D.geometry dev.old).zones }
+    ensures infos { OnOk result (D.infos dev.new ≡ infos_finished (D.infos dev.old) zone) }
+    ensures image { OnOk result (D.tells → D.image dev.new ≡ finished (D.image dev.old) zone) }
+    ensures device { ChangesDevice D.known D.geometry D.tells D.image D.tick D.since D.faults D.failed_changes dev.old dev.new (IsErr result) (PassedByFinish (D.image dev.old) zone) }
+    ensures data_kept { KeepsBlocks D.infos D.tells D.image (λ n. n == zone) dev.old dev.new }
+{
+    dev.finish(zone)
 }
 
 // Appends the blocks of a record to a zone.
@@ -50,6 +66,7 @@ pub(crate) fn append<D: ZonedDevice>(
     ensures valid { D.tells → IsValidImage (appended (D.image dev.old) zone added.now.blocks) }
     ensures device { ChangesDevice D.known D.geometry D.tells D.image D.tick D.since D.faults D.failed_changes dev.old dev.new (IsErr result)
         (PassedByAppend (D.image dev.old) zone added.now.blocks) }
+    ensures data_kept { zone < 3 → KeepsData D.infos D.tells D.image dev.old dev.new }
 {
     let _some = added.count();
     append_bytes(dev, zone, added.bytes())
@@ -71,6 +88,7 @@ fn append_bytes<D: ZonedDevice>(dev: &mut D, zone: u32, bytes: &[u8]) -> Result<
     ensures image { OnOk result (D.tells → D.image dev.new ≡ appended (D.image dev.old) zone (blocks_in (D.geometry dev.old) bytes.now)) }
     ensures device { ChangesDevice D.known D.geometry D.tells D.image D.tick D.since D.faults D.failed_changes dev.old dev.new (IsErr result)
         (PassedByAppend (D.image dev.old) zone (blocks_in (D.geometry dev.old) bytes.now)) }
+    ensures data_kept { zone < 3 → KeepsData D.infos D.tells D.image dev.old dev.new }
 {
     match dev.append(zone, bytes) {
         Ok(_) => Ok(()),

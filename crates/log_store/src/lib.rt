@@ -7,6 +7,9 @@ mod resetting;
 pub mod rest;
 mod rolling;
 mod room;
+mod settle;
+#[cfg(test)]
+mod settle_tests;
 pub mod settling;
 mod spelled;
 #[cfg(test)]
@@ -17,4 +20,5 @@ pub use log_roll::{RollBuffer, RollError};
 pub use resetting::reset_data_zone;
 pub use rolling::{roll_and_add, roll_log};
 pub use room::must_roll;
+pub use settle::settle_log;
 pub use spelled::SpelledRecord;

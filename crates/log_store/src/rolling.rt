@@ -4,6 +4,7 @@ ghost use Rattle.zone_image.specs.Infos.{active_zones, info_at, infos_appended};
 ghost use Rattle.superblock_core.specs.Superblock.{superblock_bytes};
 ghost use Rattle.log_model.specs.LogScan.{blocks_of, record_blocks};
 ghost use Rattle.log_model.specs.LogSelection.{selected_log};
+ghost use Rattle.log_roll.specs.DataKept.{KeepsData};
 ghost use Rattle.log_roll.specs.DeviceSteps.{ChangesDevice};
 ghost use Rattle.log_roll.specs.Rolling.{IsSnapshot, IsUnwritten, RefusesAs, next_chosen, next_superblock, next_zone, roll_refusal, rolled_image, rolled_infos};
 ghost use Rattle.log_store.specs.Adding.{GoesOn, LeftByRecord, RestsWithRecord};
@@ -23,7 +24,7 @@ use zoned_device::ZonedDevice;
 /// pinned one. A crash at any moment leaves the table before it, or that of the snapshot (clause `device`).
 /// `SequenceEnd` comes exactly where no higher sequence is left, and else `MetaFull` exactly where superblock,
 /// snapshot and two more blocks don't fit into a zone; nothing was done then. `DevFault` comes only where the device's
-/// count of faults rose, and `NoMemory` never.
+/// count of faults rose, and `NoMemory` never. Whatever the answer, the data zones are kept (clause `data_kept`).
 pub fn roll_log<D: ZonedDevice>(
     dev: &mut D,
     geometry: &Geometry,
@@ -56,6 +57,7 @@ pub fn roll_log<D: ZonedDevice>(
 
     ensures device { ChangesDevice D.known D.geometry D.tells D.image D.tick D.since D.faults D.failed_changes dev.old dev.new (IsErrOf result RollError.DevFault)
         (LeftBySnapshot snapshot.now (D.image dev.old)) }
+    ensures data_kept { KeepsData D.infos D.tells D.image dev.old dev.new }
     ensures same_buffer { buffer.new ≡ buffer.old }
 {
     roll_with(dev, geometry, old, snapshot, buffer)
@@ -85,6 +87,7 @@ fn add_to_new<D: ZonedDevice>(
     ensures selects { OnOk result (D.tells → GoesOn chosen added.now.blocks (D.image dev.old) (D.image dev.new)) }
     ensures device { ChangesDevice D.known D.geometry D.tells D.image D.tick D.since D.faults D.failed_changes dev.old dev.new (IsErrOf result RollError.DevFault)
         (LeftByRecord added.now.blocks (D.image dev.old)) }
+    ensures data_kept { KeepsData D.infos D.tells D.image dev.old dev.new }
 {
     match add_record(dev, geometry, &chosen, added) {
         Ok(()) => Ok(chosen),
@@ -131,6 +134,7 @@ pub fn roll_and_add<D: ZonedDevice>(
 
     ensures device { ChangesDevice D.known D.geometry D.tells D.image D.tick D.since D.faults D.failed_changes dev.old dev.new (IsErrOf result RollError.DevFault)
         (LeftByBoth snapshot.now added.now.blocks (D.image dev.old)) }
+    ensures data_kept { KeepsData D.infos D.tells D.image dev.old dev.new }
     ensures same_buffer { buffer.new ≡ buffer.old }
 {
     match roll_log(dev, geometry, old, snapshot, buffer) {

@@ -13,7 +13,7 @@ use superblock_core::{AuxPath, Superblock, VersionText};
 use zone_image::Geometry;
 use zoned_device::{FuseZones, MemZones, ZonedDevice};
 
-const SHAPE: Geometry = Geometry {
+pub(crate) const SHAPE: Geometry = Geometry {
     block: 512,
     zone_blocks: 16,
     capacity: 16,
@@ -61,7 +61,7 @@ fn formatted(alloc: Global) -> Result<MemZones, Fail>
 }
 
 // Whether a payload is a snapshot.
-fn is_snapshot(alloc: Global, payload: &[u8]) -> Result<bool, Fail>
+pub(crate) fn is_snapshot(alloc: Global, payload: &[u8]) -> Result<bool, Fail>
     ensures { IfOk result (λ is. is ≡ true → IsSnapshot payload.now) }
 {
     match decode(alloc, payload) {
@@ -71,7 +71,7 @@ fn is_snapshot(alloc: Global, payload: &[u8]) -> Result<bool, Fail>
 }
 
 // Whether the data zones alone can be as many as may be active.
-fn can_fill(geometry: &Geometry) -> bool
+pub(crate) fn can_fill(geometry: &Geometry) -> bool
     ensures { result ≡ false → geometry.now.zones < geometry.now.active_limit + 3 }
 {
     u64::from(geometry.zones) >= u64::from(geometry.active_limit) + 3
@@ -121,7 +121,7 @@ fn add<D: ZonedDevice>(
 }
 
 // The last block of the log that counts that isn't an end record: here each record behind the superblock has one.
-fn last_block<D: ZonedDevice>(
+pub(crate) fn last_block<D: ZonedDevice>(
     rt: &impl Abort,
     alloc: Global,
     dev: &mut D,

@@ -1,9 +1,10 @@
-use Rattle.std.proofs.Common.{◌≡◌, refl, subst, sym, ap, ◌∙◌}
-use Rattle.zone_image.specs.Changes.{appended, synced}
+use Rattle.std.proofs.Common.{refl, subst, sym, ap, ◌∙◌}
+use Rattle.zone_image.specs.Changes.{synced}
 use Rattle.log_roll.proofs.Blanking.{ok_then}
 use Rattle.log_roll.proofs.DeviceCalls.{done_as, done_then, whole_append}
 use Rattle.log_store.specs.Adding.{GoesOn, LeftByRecord, RestsWithRecord}
 use Rattle.log_store.proofs.AddingLaws.{goes_on_with_record, left_by_append, rests_with_record}
+use Rattle.log_roll.proofs.KeptData.{both_kept}
 use Rattle.log_store.proofs.adding.add_record.Goals as goal
 
 pub returns-in-Err-clause-device : goal.returns-in-Err-clause-device
@@ -48,3 +49,6 @@ returns-in-Ok-clause-device g c =
     (λ j told crash.
     left_by_append i chosen blocks (c.requires.selected told) c.requires.goes_on (c.in-Ok.ensures.valid told) j
     (whole_append i (D.image c.append.new.dev) j chosen.zone blocks (c.in-Ok.ensures.image told) crash))
+
+pub returns-in-Ok-clause-data_kept : goal.returns-in-Ok-clause-data_kept
+returns-in-Ok-clause-data_kept g c = both_kept (c.in-Ok.ensures.data_kept c.requires.is_metadata) c.sync.ensures.data_kept

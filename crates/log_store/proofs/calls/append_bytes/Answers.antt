@@ -1,6 +1,7 @@
-use Rattle.std.proofs.Common.{inl}
+use Rattle.std.proofs.Common.{inl, length, ◌/◌}
 use Rattle.zone_image.specs.Changes.{blocks_in}
 use Rattle.log_roll.proofs.DeviceCalls.{whole_append}
+use Rattle.log_roll.proofs.KeptData.{kept_appended, kept_failed}
 use Rattle.log_store.proofs.calls.append_bytes.Goals as goal
 
 pub returns-in-Ok-clause-device : goal.returns-in-Ok-clause-device
@@ -16,3 +17,13 @@ returns-in-Ok-clause-device g c =
       cause = record { never_falls = e.cause.never_falls; rose = λ failed. e.cause.rose failed };
       changes = inl e.changes;
     }
+
+pub returns-in-Ok-clause-data_kept : goal.returns-in-Ok-clause-data_kept
+returns-in-Ok-clause-data_kept g c = λ below.
+    let shape = g.D.ZonedDevice.geometry c.args.dev.now in
+    kept_appended shape c.args.dev.now c.append.new.self c.args.zone (length c.args.bytes.now / shape.block) (blocks_in shape c.args.bytes.now) below c.in-Ok.ensures.new_infos c.in-Ok.ensures.new_image
+
+pub returns-in-Err-clause-data_kept : goal.returns-in-Err-clause-data_kept
+returns-in-Err-clause-data_kept g c = λ below.
+    let shape = g.D.ZonedDevice.geometry c.args.dev.now in
+    kept_failed shape c.args.dev.now c.append.new.self c.args.zone (blocks_in shape c.args.bytes.now) below c.in-Err.ensures.after_fault

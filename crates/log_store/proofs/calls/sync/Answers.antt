@@ -1,4 +1,5 @@
 use Rattle.log_roll.proofs.DeviceCalls.{counts_may, valid_image, sync_stands}
+use Rattle.log_roll.proofs.KeptData.{kept_synced}
 use Rattle.log_store.proofs.calls.sync.Goals as goal
 
 pub returns-clause-device : goal.returns-clause-device
@@ -18,3 +19,6 @@ returns-clause-device g c =
       cause = e.cause;
       changes = counts_may (D.failed_changes dev) (D.failed_changes c.sync.new.self) c.sync.result e.changes;
     }
+
+pub returns-clause-data_kept : goal.returns-clause-data_kept
+returns-clause-data_kept g c = kept_synced c.args.dev.now c.sync.new.self c.sync.result c.sync.ensures.same_infos c.sync.ensures.new_image c.sync.ensures.after_fault

@@ -1,4 +1,4 @@
-use Rattle.std.proofs.Common.{◌≡◌, subst, sym}
+use Rattle.std.proofs.Common.{subst, sym}
 use Rattle.log_roll.proofs.Blanking.{ok_then}
 use Rattle.log_roll.proofs.DeviceCalls.{done_as}
 use Rattle.log_store.specs.Resetting.{LeftByReset, RestsWithoutZone}

@@ -1,4 +1,4 @@
-use Rattle.std.proofs.Common.{◌≡◌, ◌+◌, ◌<◌, ◌++◌, false, length, ap, arith, subst, sym, ◌∙◌}
+use Rattle.std.proofs.Common.{◌+◌, ◌<◌, ◌++◌, length, ap, arith, subst, sym, ◌∙◌}
 use Rattle.zone_image.specs.declared.Geometry.{Geometry}
 use Rattle.zone_image.specs.declared.ZoneInfo.{ZoneInfo}
 use Rattle.zone_image.specs.Infos.{info_at}
@@ -12,6 +12,7 @@ use Rattle.log_roll.proofs.DeviceCalls.{done_as, done_then}
 use Rattle.log_roll.proofs.Rolled.{next_is_other}
 use Rattle.log_store.specs.RollCalls.{GoesOnRolled, LeftByBoth, RestsRolled}
 use Rattle.log_store.proofs.RollCallLaws.{goes_on_rolled, left_before, left_behind, new_info, rests_rolled}
+use Rattle.log_roll.proofs.KeptData.{both_kept}
 use Rattle.log_store.proofs.rolling.roll_and_add.Goals as goal
 
 pub add_to_new-requires-clause-unsealed : goal.add_to_new-requires-clause-unsealed
@@ -98,3 +99,6 @@ returns-in-Err-clause-device g c =
     let i = g.D.ZonedDevice.image c.args.dev.now in
     done_as g.met.D.ZonedDevice.moments _ (LeftByBoth c.args.snapshot.now c.args.added.now.blocks i) c.in-Err.ensures.device (λ failed. failed) (λ failed. failed)
     (λ j told left. left_before i j c.args.snapshot.now c.args.added.now.blocks left)
+
+pub returns-in-Ok-clause-data_kept : goal.returns-in-Ok-clause-data_kept
+returns-in-Ok-clause-data_kept g c = both_kept c.in-Ok.ensures.data_kept c.add_to_new.ensures.data_kept

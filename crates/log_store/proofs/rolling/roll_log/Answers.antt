@@ -1,4 +1,4 @@
-use Rattle.std.proofs.Common.{◌≡◌, ◌++◌, Ok}
+use Rattle.std.proofs.Common.{◌++◌}
 use Rattle.superblock_core.specs.Superblock.{superblock_bytes}
 use Rattle.log_model.specs.LogScan.{record_blocks}
 use Rattle.log_roll.specs.Rolling.{next_superblock}
