@@ -156,7 +156,7 @@ files_marked g n (e ∷ es) m low =
 -- ---- the zones of a state that was mounted
 
 -- everything is recorded in a table that was mounted
-working_extents : (es : Table) → flat_map (λ e. e.extents) (working_of (map mounted_row es)) ≡ all_extents es
+pub working_extents : (es : Table) → flat_map (λ e. e.extents) (working_of (map mounted_row es)) ≡ all_extents es
 working_extents [] = refl
 working_extents (e ∷ es) =
     ap (λ (xs : List Extent). xs ++ flat_map (λ (f : FileEntry). f.extents) (working_of (map mounted_row es))) (append-nil e.extents)

@@ -10,4 +10,5 @@ pub mod WrittenLaws
 pub mod RuleLaws
 pub mod FoundLaws
 pub mod RecoveredTables
+pub mod TableStates
 pub mod MountLaws

@@ -1,5 +1,5 @@
 -- What the image of a device mounts to, by its log's table.
-use Rattle.std.proofs.Common.{◌≡◌, ℕ, ◌+◌, Bool, List, [], ◌∷◌, drop, map, Option, Some, None, option_map, Ok, Err, refl, sym, ◌∙◌, ap, subst}
+use Rattle.std.proofs.Common.{◌≡◌, ℕ, ◌+◌, Bool, List, [], ◌∷◌, drop, map, Option, Some, None, option_map, Ok, Err, refl, sym, ◌∙◌, ap}
 use Rattle.std.specs.List.{enumerate_from}
 use Rattle.zone_image.specs.declared.Geometry.{Geometry}
 use Rattle.zone_image.specs.declared.ZoneInfo.{ZoneInfo}
@@ -13,7 +13,6 @@ use Rattle.log_model.specs.AppendLaws.{scan_at, IsSelectedOn}
 use Rattle.log_model.specs.FileTable.{Table, replay_log}
 use Rattle.log_model.specs.LogSelection.{LogAt, chosen_of, select_log, scans_of}
 use Rattle.log_model.specs.Mounted.{last_block, in_zone, checked_table, recovered_entry, broken_rule, table_of, table_in}
-use Rattle.log_model.specs.TableLaws.{IsTable, AreSized}
 use Rattle.log_model.proofs.AppendLaws.{own_zone}
 use Rattle.log_model.proofs.MountedLogLaws.{selected_table_mounts}
 use Rattle.log_model.proofs.SelectedLog.{went_on, ok_is}
@@ -29,10 +28,9 @@ use Rattle.mount_replay.specs.Filling.{filled_zone, filled_zones}
 use Rattle.mount_replay.specs.Folding.{IsDamagedAs}
 use Rattle.mount_replay.specs.Payloads.{IsNoDamage}
 use Rattle.mount_replay.specs.Recovering.{damage_by, IsBrokenAs}
-use Rattle.mount_replay.specs.Replaying.{IsSelectedZone, HasTables, AreMounted, IsRefusedAs}
-use Rattle.mount_replay.specs.SoundTables.{IsSoundTable}
+use Rattle.mount_replay.specs.Replaying.{IsSelectedZone, HasTables, IsRefusedAs}
 use Rattle.mount_replay.proofs.FillingLaws.{states_are_filled}
-use Rattle.mount_replay.proofs.RecoveredTables.{table_kept, sizes_kept}
+use Rattle.mount_replay.proofs.TableStates.{recorded_rows}
 
 -- the selected log of a zone, with its payloads
 record LogOf (i : Image) (zone : ℕ) : Type 0 where
@@ -94,26 +92,10 @@ refused_by_rule i zone block es DevFault s replays last is = tt
 refused_by_rule i zone block es NoMemory s replays last is = tt
 
 -- a table that breaks none
-mounted_table : (i : Image) (zone : ℕ) (es : Table) → IsSelectedZone i zone → replay_log (drop 1 (scan_at i zone).payloads) ≡ Ok es → broken_rule i es ≡ None → table_in i ≡ Ok (map (recovered_entry i) es)
+pub mounted_table : (i : Image) (zone : ℕ) (es : Table) → IsSelectedZone i zone → replay_log (drop 1 (scan_at i zone).payloads) ≡ Ok es → broken_rule i es ≡ None → table_in i ≡ Ok (map (recovered_entry i) es)
 mounted_table i zone es s replays keeps =
     let l = log_of i zone s in
     (selected_table_mounts i l.log l.greatest es (record { selected = l.selected; table = ap (λ ps. replay_log (drop 1 ps)) l.payloads ∙ replays }) keeps).table
-
--- the entries of rows in which everything is recorded
-recorded_rows : (es : Table) → recorded_of (rows_of es) ≡ es
-recorded_rows [] = refl
-recorded_rows (e ∷ es) = ap (λ (fs : Table). e ∷ fs) (recorded_rows es)
-
--- the files of the image, as they were found
-pub are_mounted : (i : Image) (zone : ℕ) (es all : Table) → IsSelectedZone i zone → replay_log (drop 1 (scan_at i zone).payloads) ≡ Ok es → IsSoundTable es → broken_rule i es ≡ None
-    → (AreSized es → all ≡ map (recovered_entry i) es) → AreMounted i all
-are_mounted i zone es all s replays sound keeps found =
-    let same : all ≡ map (recovered_entry i) es = found sound.sized in
-    record {
-      mounts = mounted_table i zone es s replays keeps ∙ ap Ok (sym same);
-      table = subst IsTable (sym same) (table_kept i es sound.table);
-      sizes = subst AreSized (sym same) (sizes_kept i es sound.sized);
-    }
 
 -- the tables of the image
 pub has_tables : (i : Image) (g : Geometry) (infos : List ZoneInfo) (collect : Bool) (all : Table) (files : TableState) (zones : ZoneTableState) → IsImage g infos i → table_in i ≡ Ok all

@@ -6,7 +6,6 @@ use Rattle.log_model.specs.declared.selection.Refusal.TheVariants as refusal
 use Rattle.log_model.specs.FileTable.{Table}
 use Rattle.log_model.specs.LogSelection.{selected_log}
 use Rattle.log_model.specs.Mounted.{table_in}
-use Rattle.log_model.specs.TableLaws.{IsTable, AreSized}
 use Rattle.fs_model.specs.FsState.{state_with, zone_states}
 use Rattle.extent_map.specs.TableState.{TableState}
 use Rattle.zone_alloc.specs.ZoneTableState.{ZoneTableState}
@@ -33,9 +32,3 @@ pub record HasTables (i : Image) (collect : Bool) (files : TableState) (zones : 
 abbrev pub IsRefusedAs : Image → ReplayError → Type 0
 IsRefusedAs i (Damaged d) = table_in i ≡ Err (refusal.Damaged d)
 IsRefusedAs i _ = ⊤
-
--- the image mounts to this table
-pub record AreMounted (i : Image) (files : Table) : Type 0 where
-  pub mounts : table_in i ≡ Ok files
-  pub table : IsTable files
-  pub sizes : AreSized files

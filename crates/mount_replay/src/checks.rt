@@ -1,17 +1,15 @@
 // What is found again of the files of a table, and the rules on where files may lie.
 ghost use Rattle.std.specs.Prelude.{◌≡◌, ◌++◌, ◌^◌, ◌<◌, None, length, map, All, IfOk, OnOk, IfErr, IsErrOf, IsTrue};
-ghost use Rattle.std.specs.List.{AllByRecursion, AllZip, list_all};
+ghost use Rattle.std.specs.List.{AllZip, list_all};
 ghost use Rattle.zone_image.specs.Counts.{HasCause};
 ghost use Rattle.zone_image.specs.Image.{is_valid};
 ghost use Rattle.zone_image.specs.Reads.{OnlyReads};
-ghost use Rattle.record_model.specs.Grammar.{IsWritable};
 ghost use Rattle.log_model.specs.FileTable.{size_of};
 ghost use Rattle.log_model.specs.Mounted.{all_extents, broken_rule, recovered_entry};
-ghost use Rattle.log_model.specs.TableLaws.{AreSized};
-ghost use Rattle.zone_alloc.specs.ZoneTableState.{IsInDataZone};
 ghost use Rattle.mount_replay.specs.Payloads.{IsNoDamage};
-ghost use Rattle.mount_replay.specs.Rules.{is_written_in, has_point_in};
+ghost use Rattle.mount_replay.specs.Rules.{is_written_in, has_point_in, IsWrittenExtent};
 ghost use Rattle.mount_replay.specs.Recovering.{IsBrokenAs, IsFound, sized};
+ghost use Rattle.mount_replay.specs.SoundTables.{IsSoundTable};
 
 use crate::error::ReplayError;
 use crate::overlap::overlap;
@@ -43,11 +41,11 @@ pub(crate) fn found_files<D: ZonedDevice>(
     requires is_known { D.known dev.old }
     requires same_geometry { geometry.now ≡ D.geometry dev.old }
     requires same_infos { infos.now ≡ D.infos dev.old }
-    requires writable { AllByRecursion IsWritable files.old }
+    requires sound { IsSoundTable files.old }
     ensures keeps { OnOk result (D.tells → broken_rule (D.image dev.old) files.old ≡ None) }
-    ensures found { OnOk result (D.tells → AreSized files.old → files.new ≡ map (recovered_entry (D.image dev.old)) files.old) }
-    ensures writable { OnOk result (AllByRecursion IsWritable files.new) }
-    ensures lie { OnOk result (All (IsInDataZone geometry.now) (all_extents files.new)) }
+    ensures found { OnOk result (D.tells → files.new ≡ map (recovered_entry (D.image dev.old)) files.old) }
+    ensures sound { OnOk result (IsSoundTable files.new) }
+    ensures lie { OnOk result (All (IsWrittenExtent geometry.now infos.now) (all_extents files.new)) }
     ensures fits { OnOk result (size_of (all_extents files.new) < 2 ^ 64) }
     ensures damaged { IfErr result (λ e. D.tells → IsBrokenAs last.zone last.block (broken_rule (D.image dev.old) files.old) e) }
     ensures device { OnlyReads D.known D.geometry D.infos D.tells D.image D.tick D.since D.failed_changes dev.old dev.new }

@@ -1,14 +1,13 @@
 // The files of the image of a device.
 ghost use Rattle.std.specs.Prelude.{◌≡◌, ◌^◌, ◌<◌, Ok, All, IfOk, IfErr, IsErrOf};
-ghost use Rattle.std.specs.List.{AllByRecursion};
 ghost use Rattle.zone_image.specs.Counts.{HasCause};
 ghost use Rattle.zone_image.specs.Infos.{info_at};
 ghost use Rattle.zone_image.specs.Reads.{OnlyReads};
-ghost use Rattle.record_model.specs.Grammar.{IsWritable};
 ghost use Rattle.log_model.specs.FileTable.{size_of};
-ghost use Rattle.log_model.specs.Mounted.{all_extents};
-ghost use Rattle.zone_alloc.specs.ZoneTableState.{IsInDataZone};
-ghost use Rattle.mount_replay.specs.Replaying.{IsSelectedZone, AreMounted, IsRefusedAs};
+ghost use Rattle.log_model.specs.Mounted.{all_extents, table_in};
+ghost use Rattle.mount_replay.specs.Replaying.{IsSelectedZone, IsRefusedAs};
+ghost use Rattle.mount_replay.specs.Rules.{IsWrittenExtent};
+ghost use Rattle.mount_replay.specs.SoundTables.{IsSoundTable};
 
 use crate::checks::{LastRecord, found_files};
 use crate::error::ReplayError;
@@ -35,9 +34,9 @@ pub(crate) fn mounted_files<D: ZonedDevice>(
     requires is_zone { log.zone < (D.geometry dev.old).zones }
     requires same_written { log.written ≡ (info_at (D.infos dev.old) log.zone).written }
     requires selected { D.tells → IsSelectedZone (D.image dev.old) log.zone }
-    ensures mounted { IfOk result (λ files. D.tells → AreMounted (D.image dev.old) files.items) }
-    ensures writable { IfOk result (λ files. AllByRecursion IsWritable files.items) }
-    ensures lie { IfOk result (λ files. All (IsInDataZone geometry.now) (all_extents files.items)) }
+    ensures mounted { IfOk result (λ files. D.tells → table_in (D.image dev.old) ≡ Ok files.items) }
+    ensures sound { IfOk result (λ files. IsSoundTable files.items) }
+    ensures lie { IfOk result (λ files. All (IsWrittenExtent geometry.now infos.now) (all_extents files.items)) }
     ensures fits { IfOk result (λ files. size_of (all_extents files.items) < 2 ^ 64) }
     ensures damaged { IfErr result (λ e. D.tells → IsRefusedAs (D.image dev.old) e) }
     ensures device { OnlyReads D.known D.geometry D.infos D.tells D.image D.tick D.since D.failed_changes dev.old dev.new }

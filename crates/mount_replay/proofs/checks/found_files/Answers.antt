@@ -1,18 +1,19 @@
 use Rattle.std.proofs.Common.{◌≡◌, ℕ, ◌+◌, List, ◌^◌, ◌<◌, ◌≤◌, true, false, sym, ◌∙◌, ap, subst, refl, arith}
-use Rattle.std.specs.List.{All, AllZip, AllByRecursion}
+use Rattle.std.specs.List.{All, AllZip}
 use Rattle.std.proofs.lemmas.List.Elements.{All-weaker}
 use Rattle.zone_image.specs.declared.Geometry.{Geometry}
 use Rattle.zone_image.specs.declared.ZoneInfo.{ZoneInfo}
 use Rattle.zone_image.specs.Address.{device_bytes}
 use Rattle.zone_image.specs.Infos.{IsPossible}
 use Rattle.record_model.specs.declared.types.Extent.{Extent}
-use Rattle.record_model.specs.Grammar.{IsExtent, IsWritable}
+use Rattle.record_model.specs.Grammar.{IsExtent}
 use Rattle.log_model.specs.FileTable.{size_of}
 use Rattle.log_model.specs.Mounted.{overlap, all_extents, broken_rule}
-use Rattle.zone_alloc.specs.ZoneTableState.{IsInDataZone}
 use Rattle.mount_replay.specs.Recovering.{IsFound}
 use Rattle.mount_replay.specs.Rules.{IsWrittenExtent}
-use Rattle.mount_replay.proofs.FoundLaws.{written_files, found_extents, found_lie, found_table, found_writable, sized_extents, damaged_as, undamaged_broken}
+use Rattle.mount_replay.specs.SoundTables.{IsSoundTable}
+use Rattle.mount_replay.proofs.FoundLaws.{written_files, found_extents, found_lie, found_table, found_writable, sized_extents, sized_right, damaged_as, undamaged_broken}
+use Rattle.mount_replay.proofs.RecoveredTables.{found_is_table}
 use Rattle.mount_replay.proofs.RuleLaws.{broken_by}
 use Rattle.mount_replay.proofs.WrittenLaws.{possible_as, told_as, in_data_zone, ends_within, device_small, extent_in_range}
 use Rattle.mount_replay.proofs.checks.found_files.Goals as goal
@@ -52,7 +53,7 @@ overlap-requires g c =
     let ys = c.recover_files.new.files in
     let zip : AllZip (IsFound D.tells shape infos i) xs ys = c.in-Ok.ensures.found in
     let passed = sym c.if-not-are_all_written.false ∙ c.are_all_written.ensures in
-    let lie : All (IsWrittenExtent shape infos) (all_extents ys) = found_lie D.tells shape infos i xs ys zip (written_files shape infos xs (sym passed) c.requires.writable) in
+    let lie : All (IsWrittenExtent shape infos) (all_extents ys) = found_lie D.tells shape infos i xs ys zip (written_files shape infos xs (sym passed) c.requires.sound.writable) in
     let all : c.deref_mut.result.now ≡ all_extents ys = c.deref_mut.ensures.value ∙ c.in_ok-extents.ensures in
     subst (All (λ x. 0 < x.len)) (sym all) (All-weaker (IsWrittenExtent shape infos) (λ (x : Extent). 0 < x.len) (λ x is. is.some) (all_extents ys) lie)
 
@@ -69,7 +70,7 @@ returns-then-overlap-clause-damaged g c = λ told.
     let ys = c.recover_files.new.files in
     let zip : AllZip (IsFound D.tells shape infos i) xs ys = c.in-Ok.ensures.found in
     let passed = sym c.if-not-are_all_written.false ∙ c.are_all_written.ensures in
-    let lie : All (IsWrittenExtent shape infos) (all_extents ys) = found_lie D.tells shape infos i xs ys zip (written_files shape infos xs (sym passed) c.requires.writable) in
+    let lie : All (IsWrittenExtent shape infos) (all_extents ys) = found_lie D.tells shape infos i xs ys zip (written_files shape infos xs (sym passed) c.requires.sound.writable) in
     let all = c.deref_mut.ensures.value ∙ c.in_ok-extents.ensures ∙ found_extents D.tells shape infos i xs ys told zip in
     damaged_as c.args.last.zone c.args.last.block 9 (broken_rule i xs) c.broken-then-overlap.result c.broken-then-overlap.ensures
     (broken_by shape infos i possible image xs true true _ passed (sym c.if-overlap.true ∙ c.overlap.ensures.exact ∙ ap overlap all) refl)
@@ -87,7 +88,7 @@ returns-then-not-have_points-clause-damaged g c = λ told.
     let ys = c.recover_files.new.files in
     let zip : AllZip (IsFound D.tells shape infos i) xs ys = c.in-Ok.ensures.found in
     let passed = sym c.if-not-are_all_written.false ∙ c.are_all_written.ensures in
-    let lie : All (IsWrittenExtent shape infos) (all_extents ys) = found_lie D.tells shape infos i xs ys zip (written_files shape infos xs (sym passed) c.requires.writable) in
+    let lie : All (IsWrittenExtent shape infos) (all_extents ys) = found_lie D.tells shape infos i xs ys zip (written_files shape infos xs (sym passed) c.requires.sound.writable) in
     let all = c.deref_mut.ensures.value ∙ c.in_ok-extents.ensures ∙ found_extents D.tells shape infos i xs ys told zip in
     damaged_as c.args.last.zone c.args.last.block 10 (broken_rule i xs) c.broken-then-not-have_points.result c.broken-then-not-have_points.ensures
     (broken_by shape infos i possible image xs true false false passed (sym c.if-overlap.false ∙ c.overlap.ensures.exact ∙ ap overlap all) (sym c.if-not-have_points.true ∙ c.have_points-have_points.ensures))
@@ -104,7 +105,7 @@ set_sizes-requires g c =
     let ys = c.recover_files.new.files in
     let zip : AllZip (IsFound D.tells shape infos i) xs ys = c.in-Ok.ensures.found in
     let passed = sym c.if-not-are_all_written.false ∙ c.are_all_written.ensures in
-    let lie : All (IsWrittenExtent shape infos) (all_extents ys) = found_lie D.tells shape infos i xs ys zip (written_files shape infos xs (sym passed) c.requires.writable) in
+    let lie : All (IsWrittenExtent shape infos) (all_extents ys) = found_lie D.tells shape infos i xs ys zip (written_files shape infos xs (sym passed) c.requires.sound.writable) in
     let all : c.deref_mut.result.now ≡ all_extents ys = c.deref_mut.ensures.value ∙ c.in_ok-extents.ensures in
     let fits : size_of (all_extents ys) < 2 ^ 64 = bytes_fit shape infos (all_extents ys) possible lie (subst (λ es. (n : ℕ) → All (λ x. x.start + x.len ≤ n) es → size_of es ≤ n) all (c.overlap.ensures.room c.if-overlap.false)) in
     fits
@@ -122,12 +123,12 @@ returns-clause-keeps g c = λ told.
     let ys = c.recover_files.new.files in
     let zip : AllZip (IsFound D.tells shape infos i) xs ys = c.in-Ok.ensures.found in
     let passed = sym c.if-not-are_all_written.false ∙ c.are_all_written.ensures in
-    let lie : All (IsWrittenExtent shape infos) (all_extents ys) = found_lie D.tells shape infos i xs ys zip (written_files shape infos xs (sym passed) c.requires.writable) in
+    let lie : All (IsWrittenExtent shape infos) (all_extents ys) = found_lie D.tells shape infos i xs ys zip (written_files shape infos xs (sym passed) c.requires.sound.writable) in
     let all = c.deref_mut.ensures.value ∙ c.in_ok-extents.ensures ∙ found_extents D.tells shape infos i xs ys told zip in
     broken_by shape infos i possible image xs true false true passed (sym c.if-overlap.false ∙ c.overlap.ensures.exact ∙ ap overlap all) (sym c.if-not-have_points.false ∙ c.have_points-have_points.ensures)
 
 pub returns-clause-found : goal.returns-clause-found
-returns-clause-found g c = λ told sizes.
+returns-clause-found g c = λ told.
     let D = g.D.ZonedDevice in
     let dev = c.args.dev.now in
     let shape = c.args.geometry.now in
@@ -138,11 +139,11 @@ returns-clause-found g c = λ told sizes.
     let ys = c.recover_files.new.files in
     let zip : AllZip (IsFound D.tells shape infos i) xs ys = c.in-Ok.ensures.found in
     let passed = sym c.if-not-are_all_written.false ∙ c.are_all_written.ensures in
-    let lie : All (IsWrittenExtent shape infos) (all_extents ys) = found_lie D.tells shape infos i xs ys zip (written_files shape infos xs (sym passed) c.requires.writable) in
-    c.set_sizes.ensures ∙ found_table D.tells shape infos i xs ys told sizes zip
+    let lie : All (IsWrittenExtent shape infos) (all_extents ys) = found_lie D.tells shape infos i xs ys zip (written_files shape infos xs (sym passed) c.requires.sound.writable) in
+    c.set_sizes.ensures ∙ found_table D.tells shape infos i xs ys told c.requires.sound.sized zip
 
-pub returns-clause-writable : goal.returns-clause-writable
-returns-clause-writable g c =
+pub returns-clause-sound : goal.returns-clause-sound
+returns-clause-sound g c =
     let D = g.D.ZonedDevice in
     let dev = c.args.dev.now in
     let shape = c.args.geometry.now in
@@ -153,12 +154,16 @@ returns-clause-writable g c =
     let ys = c.recover_files.new.files in
     let zip : AllZip (IsFound D.tells shape infos i) xs ys = c.in-Ok.ensures.found in
     let passed = sym c.if-not-are_all_written.false ∙ c.are_all_written.ensures in
-    let lie : All (IsWrittenExtent shape infos) (all_extents ys) = found_lie D.tells shape infos i xs ys zip (written_files shape infos xs (sym passed) c.requires.writable) in
+    let lie : All (IsWrittenExtent shape infos) (all_extents ys) = found_lie D.tells shape infos i xs ys zip (written_files shape infos xs (sym passed) c.requires.sound.writable) in
     let all : c.deref_mut.result.now ≡ all_extents ys = c.deref_mut.ensures.value ∙ c.in_ok-extents.ensures in
     let fits : size_of (all_extents ys) < 2 ^ 64 = bytes_fit shape infos (all_extents ys) possible lie (subst (λ es. (n : ℕ) → All (λ x. x.start + x.len ≤ n) es → size_of es ≤ n) all (c.overlap.ensures.room c.if-overlap.false)) in
-    subst (AllByRecursion IsWritable) (sym c.set_sizes.ensures)
-    (found_writable D.tells shape infos i xs ys zip c.requires.writable
-    (All-weaker (IsWrittenExtent shape infos) IsExtent (λ x is. extent_in_range shape x possible.valid (in_data_zone shape infos x possible is)) (all_extents ys) lie) fits)
+    subst IsSoundTable (sym c.set_sizes.ensures) (record {
+      table = found_is_table D.tells shape infos i xs ys zip c.requires.sound.table;
+      sized = sized_right ys;
+      writable =
+          found_writable D.tells shape infos i xs ys zip c.requires.sound.writable
+          (All-weaker (IsWrittenExtent shape infos) IsExtent (λ x is. extent_in_range shape x possible.valid (in_data_zone shape infos x possible is)) (all_extents ys) lie) fits;
+    })
 
 pub returns-clause-lie : goal.returns-clause-lie
 returns-clause-lie g c =
@@ -172,9 +177,8 @@ returns-clause-lie g c =
     let ys = c.recover_files.new.files in
     let zip : AllZip (IsFound D.tells shape infos i) xs ys = c.in-Ok.ensures.found in
     let passed = sym c.if-not-are_all_written.false ∙ c.are_all_written.ensures in
-    let lie : All (IsWrittenExtent shape infos) (all_extents ys) = found_lie D.tells shape infos i xs ys zip (written_files shape infos xs (sym passed) c.requires.writable) in
-    subst (All (IsInDataZone shape)) (sym (ap all_extents c.set_sizes.ensures ∙ sized_extents ys))
-    (All-weaker (IsWrittenExtent shape infos) (IsInDataZone shape) (λ x is. in_data_zone shape infos x possible is) (all_extents ys) lie)
+    let lie : All (IsWrittenExtent shape infos) (all_extents ys) = found_lie D.tells shape infos i xs ys zip (written_files shape infos xs (sym passed) c.requires.sound.writable) in
+    subst (All (IsWrittenExtent shape infos)) (sym (ap all_extents c.set_sizes.ensures ∙ sized_extents ys)) lie
 
 pub returns-clause-fits : goal.returns-clause-fits
 returns-clause-fits g c =
@@ -188,7 +192,7 @@ returns-clause-fits g c =
     let ys = c.recover_files.new.files in
     let zip : AllZip (IsFound D.tells shape infos i) xs ys = c.in-Ok.ensures.found in
     let passed = sym c.if-not-are_all_written.false ∙ c.are_all_written.ensures in
-    let lie : All (IsWrittenExtent shape infos) (all_extents ys) = found_lie D.tells shape infos i xs ys zip (written_files shape infos xs (sym passed) c.requires.writable) in
+    let lie : All (IsWrittenExtent shape infos) (all_extents ys) = found_lie D.tells shape infos i xs ys zip (written_files shape infos xs (sym passed) c.requires.sound.writable) in
     let all : c.deref_mut.result.now ≡ all_extents ys = c.deref_mut.ensures.value ∙ c.in_ok-extents.ensures in
     let fits : size_of (all_extents ys) < 2 ^ 64 = bytes_fit shape infos (all_extents ys) possible lie (subst (λ es. (n : ℕ) → All (λ x. x.start + x.len ≤ n) es → size_of es ≤ n) all (c.overlap.ensures.room c.if-overlap.false)) in
     subst (λ (es : List Extent). size_of es < 2 ^ 64) (sym (ap all_extents c.set_sizes.ensures ∙ sized_extents ys)) fits

@@ -1,17 +1,15 @@
-use Rattle.std.proofs.Common.{◌≡◌, ℕ, ◌^◌, ◌<◌, length, map, Option, None, sym, ◌∙◌, ap, subst}
-use Rattle.std.specs.List.{All, AllByRecursion}
+use Rattle.std.proofs.Common.{◌≡◌, ℕ, ◌^◌, ◌<◌, length, map, Option, None, Ok, sym, ◌∙◌, ap, subst}
+use Rattle.std.specs.List.{All}
 use Rattle.std.proofs.lemmas.List.{with_items_is}
 use Rattle.zone_image.proofs.ReadLaws.{reads_on}
 use Rattle.zone_image.specs.Image.{Image}
-use Rattle.record_model.specs.Grammar.{IsWritable}
 use Rattle.log_model.specs.FileTable.{Table, size_of}
 use Rattle.log_model.specs.Mounted.{all_extents, broken_rule, recovered_entry}
-use Rattle.log_model.specs.TableLaws.{AreSized}
-use Rattle.zone_alloc.specs.ZoneTableState.{IsInDataZone}
+use Rattle.mount_replay.specs.Rules.{IsWrittenExtent}
+use Rattle.mount_replay.specs.SoundTables.{IsSoundTable}
 use Rattle.extent_map.specs.Records.{recorded_of}
 use Rattle.mount_replay.specs.Recovering.{IsBrokenAs}
-use Rattle.mount_replay.specs.Replaying.{AreMounted}
-use Rattle.mount_replay.proofs.MountLaws.{are_mounted, refused_by_log, refused_by_rule}
+use Rattle.mount_replay.proofs.MountLaws.{mounted_table, refused_by_log, refused_by_rule}
 use Rattle.mount_replay.proofs.mounted_files.mounted_files.Goals as goal
 
 pub returns-in-Err-clause-damaged : goal.returns-in-Err-clause-damaged
@@ -29,6 +27,9 @@ returns-clause-damaged g c = λ told.
     refused_by_rule i c.args.log.zone c.in-Ok.made.last es c.in-Err-found_files.e (c.requires.selected told) (c.in-Ok.ensures.table told) (c.in-Ok.ensures.last told)
     (subst (λ (o : Option ℕ). IsBrokenAs c.args.log.zone c.in-Ok.made.last o c.in-Err-found_files.e) (ap (broken_rule j) old ∙ ap (λ (k : Image). broken_rule k es) same) (c.in-Err-found_files.ensures.damaged told))
 
+pub found_files-requires-clause-sound : goal.found_files-requires-clause-sound
+found_files-requires-clause-sound g c = subst IsSoundTable (sym (c.deref_mut.ensures.value ∙ c.in_ok-files.ensures)) c.in-Ok.ensures.sound
+
 pub returns-in-Ok-found_files-clause-mounted : goal.returns-in-Ok-found_files-clause-mounted
 returns-in-Ok-found_files-clause-mounted g c = λ told.
     let D = g.D.ZonedDevice in
@@ -40,22 +41,21 @@ returns-in-Ok-found_files-clause-mounted g c = λ told.
     let old : c.deref_mut.result.now ≡ es = c.deref_mut.ensures.value ∙ c.in_ok-files.ensures in
     let long : length ws ≡ c.in_ok-files.files.len = c.found_files.auto.files ∙ c.deref_mut.ensures.len in
     let keeps : broken_rule i es ≡ None = sym (ap (broken_rule j) old ∙ ap (λ (k : Image). broken_rule k es) same) ∙ c.in-Ok-found_files.ensures.keeps told in
-    let found : AreSized es → ws ≡ map (recovered_entry i) es =
-    λ sizes. c.in-Ok-found_files.ensures.found told (subst AreSized (sym old) sizes) ∙ ap (λ (k : Image). map (recovered_entry k) c.deref_mut.result.now) same ∙ ap (map (recovered_entry i)) old in
-    subst (AreMounted i) (sym (with_items_is c.in_ok-files.files ws long))
-    (are_mounted i c.args.log.zone es ws (c.requires.selected told) (c.in-Ok.ensures.table told) c.in-Ok.ensures.sound keeps found)
+    let found : ws ≡ map (recovered_entry i) es =
+    c.in-Ok-found_files.ensures.found told ∙ ap (λ (k : Image). map (recovered_entry k) c.deref_mut.result.now) same ∙ ap (map (recovered_entry i)) old in
+    mounted_table i c.args.log.zone es (c.requires.selected told) (c.in-Ok.ensures.table told) keeps ∙ ap Ok (sym (with_items_is c.in_ok-files.files ws long ∙ found))
 
-pub returns-in-Ok-found_files-clause-writable : goal.returns-in-Ok-found_files-clause-writable
-returns-in-Ok-found_files-clause-writable g c =
+pub returns-in-Ok-found_files-clause-sound : goal.returns-in-Ok-found_files-clause-sound
+returns-in-Ok-found_files-clause-sound g c =
     let ws = c.found_files.new.files in
     let long : length ws ≡ c.in_ok-files.files.len = c.found_files.auto.files ∙ c.deref_mut.ensures.len in
-    subst (AllByRecursion IsWritable) (sym (with_items_is c.in_ok-files.files ws long)) c.in-Ok-found_files.ensures.writable
+    subst IsSoundTable (sym (with_items_is c.in_ok-files.files ws long)) c.in-Ok-found_files.ensures.sound
 
 pub returns-in-Ok-found_files-clause-lie : goal.returns-in-Ok-found_files-clause-lie
 returns-in-Ok-found_files-clause-lie g c =
     let ws = c.found_files.new.files in
     let long : length ws ≡ c.in_ok-files.files.len = c.found_files.auto.files ∙ c.deref_mut.ensures.len in
-    subst (λ (es : Table). All (IsInDataZone c.args.geometry.now) (all_extents es)) (sym (with_items_is c.in_ok-files.files ws long)) c.in-Ok-found_files.ensures.lie
+    subst (λ (es : Table). All (IsWrittenExtent c.args.geometry.now c.args.infos.now) (all_extents es)) (sym (with_items_is c.in_ok-files.files ws long)) c.in-Ok-found_files.ensures.lie
 
 pub returns-in-Ok-found_files-clause-fits : goal.returns-in-Ok-found_files-clause-fits
 returns-in-Ok-found_files-clause-fits g c =
