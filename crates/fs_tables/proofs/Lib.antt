@@ -1,0 +1,14 @@
+pub mod ZoneChanges
+pub mod LiveLaws
+pub mod NeedLaws
+pub mod ZoneReads
+pub mod RollLaws
+pub mod StepLaws
+pub mod ResetLaws
+pub mod TokenLaws
+pub mod FileChanges
+pub mod EmptyTables
+pub mod ReleaseLaws
+pub mod LostLaws
+pub mod LosingLaws
+pub mod MadeTables
