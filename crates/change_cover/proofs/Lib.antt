@@ -1,0 +1,15 @@
+pub mod ByteCounts
+pub mod NoPoints
+pub mod DurableBytes
+pub mod ShownTrees
+pub mod PointLaws
+pub mod KeptBytes
+pub mod LeftTrees
+pub mod CoveredLaws
+pub mod SameTreeLaws
+pub mod StoredRecords
+pub mod ChangedTrees
+pub mod ResetZones
+pub mod MountSteps
+pub mod FollowLaws
+pub mod RoomLaws

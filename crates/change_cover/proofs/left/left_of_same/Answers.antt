@@ -1,0 +1,5 @@
+use Rattle.change_cover.proofs.LeftTrees.{left_of_same}
+use Rattle.change_cover.proofs.left.left_of_same.Goals as goal
+
+pub returns : goal.returns
+returns c = left_of_same

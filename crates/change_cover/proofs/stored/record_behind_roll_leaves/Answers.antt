@@ -1,0 +1,5 @@
+use Rattle.change_cover.proofs.StoredRecords.{record_behind_roll_leaves}
+use Rattle.change_cover.proofs.stored.record_behind_roll_leaves.Goals as goal
+
+pub returns : goal.returns
+returns c = record_behind_roll_leaves

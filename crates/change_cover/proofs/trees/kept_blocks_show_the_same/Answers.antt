@@ -1,0 +1,5 @@
+use Rattle.change_cover.proofs.SameTreeLaws.{kept_blocks_show_the_same}
+use Rattle.change_cover.proofs.trees.kept_blocks_show_the_same.Goals as goal
+
+pub returns : goal.returns
+returns c = kept_blocks_show_the_same

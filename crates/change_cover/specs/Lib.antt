@@ -1,0 +1,11 @@
+pub mod Rests
+pub mod ShownTrees
+pub mod Left
+pub mod Covered
+pub mod NameChanges
+pub mod SameTrees
+pub mod Stored
+pub mod Resets
+pub mod Mounting
+pub mod Following
+pub mod MountRoom

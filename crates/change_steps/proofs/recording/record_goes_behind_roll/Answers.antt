@@ -1,0 +1,5 @@
+use Rattle.change_steps.proofs.RecordLaws.{record_goes_behind_roll}
+use Rattle.change_steps.proofs.recording.record_goes_behind_roll.Goals as goal
+
+pub returns : goal.returns
+returns c = record_goes_behind_roll
