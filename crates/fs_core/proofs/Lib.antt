@@ -1,0 +1,14 @@
+pub mod Reasons
+pub mod ReplayedTables
+pub mod ResetDead
+pub mod Checks
+pub mod Tokens
+pub mod NewLogs
+pub mod StoredLog
+pub mod StoredChange
+pub mod Pieces
+pub mod FileRows
+pub mod WritingGoesOn
+pub mod MadeChanges
+pub mod SettledWrites
+pub mod Beginnings

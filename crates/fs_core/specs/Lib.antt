@@ -1,0 +1,9 @@
+pub mod FsValue
+pub mod Mounting
+pub mod DeadZones
+pub mod Checking
+pub mod Beginning
+pub mod Storing
+pub mod Reading
+pub mod Changing
+pub mod Granting

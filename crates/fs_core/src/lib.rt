@@ -1,0 +1,24 @@
+//! A mounted file system.
+#![tactic(auto)]
+
+mod beginning;
+mod check;
+mod dead_zones;
+mod error;
+mod file_system;
+mod granting;
+mod mount;
+mod new_log;
+mod prepared;
+mod queries;
+mod reading;
+mod settled_tables;
+mod shown;
+mod storing;
+mod tables;
+#[cfg(test)]
+mod tests;
+
+pub use check::Change;
+pub use error::{MountError, ReadError, Refused};
+pub use file_system::Fs;
