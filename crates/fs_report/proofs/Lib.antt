@@ -3,3 +3,4 @@ pub mod Padding
 pub mod StableSort
 pub mod LinesInOrder
 pub mod Pieces
+pub mod Saying

@@ -2,3 +2,4 @@ pub mod ExitCode
 pub mod MemSinkState
 pub mod Written
 pub mod Lines
+pub mod Causes

@@ -1,20 +1,26 @@
 //! What the programs print, and where they print it.
 #![tactic(auto)]
 
+mod cause;
 mod listing;
 mod making;
 mod mem_sink;
 mod out_sink;
+mod refusal_line;
+#[cfg(test)]
+mod refusal_tests;
 mod sink;
 mod status;
 mod superblock_lines;
 #[cfg(test)]
 mod tests;
 
+pub use cause::Cause;
 pub use listing::list_text;
 pub use making::{made_fs_text, made_image_text};
 pub use mem_sink::MemSink;
 pub use out_sink::OutSink;
+pub use refusal_line::say_refusal;
 pub use sink::{Sink, SinkFault, write_all};
 pub use status::Status;
 pub use superblock_lines::info_text;

@@ -1,7 +1,7 @@
 use Rattle.std.proofs.Common.{ap, ◌∙◌}
 use Rattle.std.specs.Prelude.{flat_map}
 use Rattle.std.specs.Option.{option_copied}
-use Rattle.fs_report.specs.Lines.{folder_of, listed_of, listed_text}
+use Rattle.fs_report.specs.Lines.{listed_of, listed_text}
 use Rattle.fs_report.proofs.LinesInOrder.{text_is_list}
 use Rattle.fs_report.proofs.listing.list_text.Goals as goal
 

@@ -1,0 +1,9 @@
+use Rattle.std.specs.Prelude.{◌++◌, codes, decimal}
+use Rattle.fs_report.proofs.Saying.{said_two}
+use Rattle.fs_report.proofs.refusal_line.say_unsupported.Goals as goal
+
+pub returns-clause-said : goal.returns-clause-said
+returns-clause-said g c = λ told.
+    said_two _ _ _ (codes "zone " ++ decimal c.args.zone ++ codes ": unsupported version " ++ decimal c.args.version) (codes " flags ") (decimal c.args.flags) (said_two _ _ _ (codes "zone " ++ decimal c.args.zone) (codes ": unsupported version ") (decimal c.args.version) (c.in_ok-say_numbered.ensures.said told)
+    (c.in_ok-say_numbered-2.ensures.said told))
+    (c.in_ok-say_numbered-3.ensures.said told)
