@@ -67,5 +67,6 @@ def image():
     return (front + log).ljust(8192 + ZONES * ZONE_BLOCKS * BLOCK, b"\0")
 
 
-with open(sys.argv[1], "wb") as out:
-    out.write(image())
+if __name__ == "__main__":
+    with open(sys.argv[1], "wb") as out:
+        out.write(image())
