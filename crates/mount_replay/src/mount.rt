@@ -49,8 +49,8 @@ pub struct Mounted {
 /// is written of a data zone (`written`). A record may have each file (`writable`), and the bytes of all are fewer than
 /// 2^64 (`fits`), as are those of a snapshot by far (`short`). Collection is as it was asked for (`collect`).
 ///
-/// `DevFault` comes only where the device's count of faults rose (`cause`), and `NoMemory` where memory is wanting.
-/// Nothing is written.
+/// `DevFault` comes only where the device's count of faults rose (`cause`), and `NoMemory` where memory is wanting or a
+/// snapshot of the files would have 2^62 bytes or more. Nothing is written.
 pub fn replay<D: ZonedDevice>(
     alloc: Global,
     dev: &mut D,
