@@ -1,10 +1,10 @@
 -- A mount begins to write: a new log, and then resets.
-use Rattle.std.proofs.Common.{◌≡◌, ℕ, ◌≤◌, Bool, false, not, List, [], ◌∷◌, ◌++◌, map, Ok, Err, inr, refl, sym, ◌∙◌, ap, subst}
+use Rattle.std.proofs.Common.{◌≡◌, ℕ, Bool, false, not, List, [], ◌∷◌, ◌++◌, map, Ok, Err, refl, sym, ◌∙◌, ap, subst}
 use Rattle.std.specs.Prelude.{◌==◌}
 use Rattle.std.specs.List.{list_any}
 use Rattle.zone_image.specs.declared.ZoneInfo.{ZoneInfo}
 use Rattle.zone_image.specs.Image.{Image, zone_of}
-use Rattle.log_model.specs.Mounted.{MountsTo, all_extents}
+use Rattle.log_model.specs.Mounted.{all_extents}
 use Rattle.fs_model.specs.declared.error.FsError.TheVariants.{DevFault}
 use Rattle.fs_model.specs.FsState.{FsState, TableRow, recorded}
 use Rattle.fs_model.specs.LogSteps.{resettable_zones}
@@ -12,7 +12,6 @@ use Rattle.fs_model.specs.Trace.{Refines}
 use Rattle.fs_model.specs.TreeSteps.{cleared, mount_write}
 use Rattle.log_store.specs.OtherData.{KeepsOtherData}
 use Rattle.change_records.specs.Recorded.{entries}
-use Rattle.change_steps.specs.Recording.{KeepsFiles}
 use Rattle.change_steps.specs.Resetting.{IsResetting}
 use Rattle.change_steps.specs.WriteMount.{settled_state}
 use Rattle.change_steps.proofs.MountLaws.{mount_ends}

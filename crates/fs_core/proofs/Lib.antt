@@ -12,3 +12,8 @@ pub mod WritingGoesOn
 pub mod MadeChanges
 pub mod SettledWrites
 pub mod Beginnings
+pub mod ChangeRoom
+pub mod Refusals
+pub mod AskedChanges
+pub mod Deletions
+pub mod HeldBytes

@@ -13,7 +13,7 @@ use Rattle.fs_model.specs.declared.error.FsError.{FsError}
 use Rattle.fs_model.specs.declared.error.FsError.TheVariants.{DevFault}
 use Rattle.fs_model.specs.CrashClauses.{shown_tree}
 use Rattle.fs_model.specs.FsState.{FsState, TableRow, recorded, working_of}
-use Rattle.fs_model.specs.LogSteps.{FsAction}
+use Rattle.fs_model.specs.LogSteps.{FsAction, resettable_zones}
 use Rattle.fs_model.specs.Trace.{Refines}
 use Rattle.log_roll.specs.DataKept.{KeepsData}
 use Rattle.log_roll.specs.DeviceSteps.{ChangesDevice}
@@ -22,6 +22,7 @@ use Rattle.log_store.specs.OtherData.{KeepsOtherData}
 use Rattle.log_store.proofs.OtherData.{others_of_all, others_of_both, others_of_fewer}
 use Rattle.change_records.specs.PinnedRows.{AreSomeOf}
 use Rattle.change_records.proofs.FewerExtents.{same_extents}
+use Rattle.change_steps.specs.Endings.{Ends}
 use Rattle.change_steps.specs.Resetting.{IsResetting}
 use Rattle.change_steps.specs.Recording.{KeepsFiles}
 use Rattle.change_steps.proofs.ResetLaws.{resets_keep_files}
@@ -33,7 +34,7 @@ use Rattle.change_cover.specs.Stored.{IsChange, blocks_on}
 use Rattle.change_cover.proofs.ChangedTrees.{left_after_change}
 use Rattle.change_cover.proofs.LeftTrees.{crash_is_left, left_of_more, same_tree_is_left}
 use Rattle.fs_tables.specs.Steps.{infos_in}
-use Rattle.fs_core.specs.Changing.{IsUnwritten, LeftByChange, LogGoesOn, MakesChange}
+use Rattle.fs_core.specs.Changing.{HasStored, IsUnwritten, LeftByChange, LogGoesOn, MakesChange}
 use Rattle.fs_core.specs.DeadZones.{is_free}
 use Rattle.fs_core.specs.FsValue.{CanWrite}
 use Rattle.fs_core.specs.Storing.{LeavesChange, StoresChange}
@@ -53,17 +54,6 @@ no_fault {A = A} e unwritten is = subst (λ (r : Result A FsError). IsUnwritten 
 -- the recorded extents of the same rows on the same geometry lie in the same zones
 same_free : (s t : FsState) → KeepsFiles s t → (n : ℕ) → is_free t.geometry (recorded t) n ≡ is_free s.geometry (recorded s) n
 same_free s t kept n = ap (λ g. is_free g (recorded t) n) kept.geometry ∙ ap (λ (rows : List TableRow). is_free s.geometry (map (λ r. r.entry) rows) n) kept.rows
-
--- a change that is stored, before any zone is reset
-pub record HasStored {D : Type 0} (known : D → Type 0) (geometry : D → Geometry) (infos : D → List ZoneInfo) (tells : Type 0) (image : D → Image) (tick : D → ℕ) (since : D → ℕ → Image → Type 0) (faults failed_changes : D → ℕ) (c : Change) (old new : D) (s t : FsState) : Type 0 where
-  pub told : infos_in t ≡ infos new
-  pub writes : CanWrite t
-  pub stands : tells → Stands (image old) s → Stands (image new) t
-  pub device : ChangesDevice known geometry tells image tick since faults failed_changes old new ⊥ (LeftByChange (image old) s c)
-  pub left : tells → Stands (image old) s → (k : Image) → MountsTheSame (image new) k → IsLeftOf (image old) (apply c (shown_tree (image old) s) ∷ []) k
-  pub kept : KeepsData infos tells image old new
-  pub extents : AreSomeOf (all_extents (recorded t)) (all_extents (recorded s))
-  pub shape : t.geometry ≡ s.geometry
 
 -- what a stored change leaves: the device D has its members as parameters
 module _ {D : Type 0} {known : D → Type 0} {geometry : D → Geometry} {infos : D → List ZoneInfo} {tells : Type 0} {image : D → Image} {tick : D → ℕ} {since : D → ℕ → Image → Type 0} {faults failed_changes : D → ℕ} (laws : KeepsMoments tells image tick since) where
@@ -107,16 +97,17 @@ module _ {D : Type 0} {known : D → Type 0} {geometry : D → Geometry} {infos 
       })
 
   -- a record that is stored, and the rows after its change
-  pub has_stored : (c : Change) (r : Record) (after : List TableRow) (greatest : ℕ) (blocks : List (List ℕ)) (old new : D) (s s1 s2 : FsState) (F : Type 0) → (F → ⊥)
+  pub has_stored : {A : Type 0} (m : FsAction A) (x : A) (c : Change) (r : Record) (after : List TableRow) (greatest : ℕ) (blocks : List (List ℕ)) (old new : D) (s s1 s2 : FsState) (F : Type 0) → (F → ⊥) → Ends m x s s2
       → s2 ≡ record s1 { rows = after; greatest = greatest } → IsChange s c r after → (tells → blocks ≡ blocks_on (image old) r) → AreShown after
       → has_room s.geometry.capacity s.geometry.block (working_of after) ≡ true → KeepsFiles s s1 → (tells → (image new).geometry ≡ (image old).geometry)
       → infos_in s1 ≡ infos new → LogGoesOn s1 → (tells → StoresChange blocks (image old) s (image new) s1.log)
-      → ChangesDevice known geometry tells image tick since faults failed_changes old new F (LeavesChange blocks (image old) s) → KeepsData infos tells image old new → HasStored known geometry infos tells image tick since faults failed_changes c old new s s2
-  has_stored c r after greatest blocks old new s s1 s2 F worked is change spelled shown room files shape told goes_on stores device kept =
+      → ChangesDevice known geometry tells image tick since faults failed_changes old new F (LeavesChange blocks (image old) s) → KeepsData infos tells image old new → HasStored known geometry infos tells image tick since faults failed_changes m x c old new s s2
+  has_stored m x c r after greatest blocks old new s s1 s2 F worked ends is change spelled shown room files shape told goes_on stores device kept =
       let t : FsState = record s1 { rows = after; greatest = greatest } in
       let there : tells → Stands (image old) s → Stands (image new) t = λ says stands. stores says c r after t stands change (spelled says) (record { rows = refl; log = refl }) shown in
-      subst (λ u. HasStored known geometry infos tells image tick since faults failed_changes c old new s u) (sym is)
+      subst (λ u. HasStored known geometry infos tells image tick since faults failed_changes m x c old new s u) (sym is)
       (record {
+        ends = subst (λ u. Ends m x s u) is ends;
         told = told;
         writes = record {
           room = subst (λ g. has_room g.capacity g.block (working_of after) ≡ true) (sym files.geometry) room;
@@ -137,39 +128,39 @@ module _ {D : Type 0} {known : D → Type 0} {geometry : D → Geometry} {infos 
       })
 
   -- what resets behind it keep
-  kept_behind : (c : Change) (old mid new : D) (s s2 t : FsState) → HasStored known geometry infos tells image tick since faults failed_changes c old mid s s2 → IsResetting s2 t → KeepsOtherData infos tells image (is_free s2.geometry (recorded s2)) mid new
+  kept_behind : {A : Type 0} (m : FsAction A) (x : A) (c : Change) (old mid new : D) (s s2 t : FsState) → HasStored known geometry infos tells image tick since faults failed_changes m x c old mid s s2 → IsResetting s2 t → KeepsOtherData infos tells image (is_free s2.geometry (recorded s2)) mid new
       → KeepsOtherData infos tells image (is_free s.geometry (recorded t)) old new
-  kept_behind c old mid new s s2 t stored way kept =
+  kept_behind m x c old mid new s s2 t stored way kept =
       others_of_both (others_of_all (is_free s.geometry (recorded t)) stored.kept)
       (others_of_fewer (is_free s.geometry (recorded t))
       (λ n held. ap (λ g. is_free g (recorded s2) n) stored.shape ∙ ap (λ (rows : List TableRow). is_free s.geometry (map (λ r. r.entry) rows) n) (sym (resets_keep_files s2 t way).0.rows) ∙ held) kept)
 
   -- the extents that are recorded then
-  extents_behind : (c : Change) (old mid : D) (s s2 t : FsState) → HasStored known geometry infos tells image tick since faults failed_changes c old mid s s2 → IsResetting s2 t → AreSomeOf (all_extents (recorded t)) (all_extents (recorded s))
-  extents_behind c old mid s s2 t stored way =
+  extents_behind : {A : Type 0} (m : FsAction A) (x : A) (c : Change) (old mid : D) (s s2 t : FsState) → HasStored known geometry infos tells image tick since faults failed_changes m x c old mid s s2 → IsResetting s2 t → AreSomeOf (all_extents (recorded t)) (all_extents (recorded s))
+  extents_behind m x c old mid s s2 t stored way =
       subst (λ (rows : List TableRow). AreSomeOf (all_extents (map (λ r. r.entry) rows)) (all_extents (recorded s))) (sym (resets_keep_files s2 t way).0.rows) stored.extents
 
   -- what a crash leaves of both
-  device_behind : (G : Type 0) (c : Change) (old mid new : D) (s s2 : FsState) (F : Type 0) → (F → G) → (G → F) → HasStored known geometry infos tells image tick since faults failed_changes c old mid s s2
+  device_behind : {A : Type 0} (m : FsAction A) (x : A) (G : Type 0) (c : Change) (old mid new : D) (s s2 : FsState) (F : Type 0) → (F → G) → (G → F) → HasStored known geometry infos tells image tick since faults failed_changes m x c old mid s s2
       → ChangesDevice known geometry tells image tick since faults failed_changes mid new F (λ j. Stands (image mid) s2 → MountsTheSame (image mid) j)
       → ChangesDevice known geometry tells image tick since faults failed_changes old new G (LeftByChange (image old) s c)
-  device_behind G c old mid new s s2 F there back stored device =
+  device_behind m x G c old mid new s s2 F there back stored device =
       done_as laws G (LeftByChange (image old) s c)
       (done_then laws (LeftByChange (image old) s c) stored.device (λ none. none) device (λ j says p. p)
       (λ j says mounts stands. after_change (image old) j s c (stored.left says stands j (mounts (stored.stands says stands)))))
       there back (λ j says p. p)
 
   -- a fault while zones are reset behind it
-  pub partly_reset : {A : Type 0} (m : FsAction A) (c : Change) (old mid new : D) (s s2 t : FsState) (F : Type 0) → F → HasStored known geometry infos tells image tick since faults failed_changes c old mid s s2 → Refines m s (Err DevFault) t → IsResetting s2 t
+  pub partly_reset : {A : Type 0} (m : FsAction A) (x : A) (c : Change) (old mid new : D) (s s2 t : FsState) (F : Type 0) → F → HasStored known geometry infos tells image tick since faults failed_changes m x c old mid s s2 → IsResetting s2 t
       → ChangesDevice known geometry tells image tick since faults failed_changes mid new F (λ j. Stands (image mid) s2 → MountsTheSame (image mid) j)
       → KeepsOtherData infos tells image (is_free s2.geometry (recorded s2)) mid new
       → MakesChange known geometry infos tells image tick since faults failed_changes m c old new s t (Err DevFault)
-  partly_reset m c old mid new s s2 t F fault stored steps way device kept = record {
-    steps = steps;
+  partly_reset m x c old mid new s s2 t F fault stored way device kept = record {
+    steps = stored.ends.fault_behind t way;
     unwritten = λ h. absurd h;
-    device = device_behind _ c old mid new s s2 F (λ f. refl) (λ is. fault) stored device;
-    kept = kept_behind c old mid new s s2 t stored way kept;
-    extents = extents_behind c old mid s s2 t stored way;
+    device = device_behind m x _ c old mid new s s2 F (λ f. refl) (λ is. fault) stored device;
+    kept = kept_behind m x c old mid new s s2 t stored way kept;
+    extents = extents_behind m x c old mid s s2 t stored way;
     shape = (resets_keep_files s2 t way).0.geometry ∙ stored.shape;
     told = tt;
     writes = tt;
@@ -178,17 +169,17 @@ module _ {D : Type 0} {known : D → Type 0} {geometry : D → Geometry} {infos 
   }
 
   -- all of it
-  pub all_made : {A : Type 0} (m : FsAction A) (x : A) (c : Change) (old mid new : D) (s s2 t : FsState) (F : Type 0) → (F → ⊥) → HasStored known geometry infos tells image tick since faults failed_changes c old mid s s2 → Refines m s (Ok x) t → IsResetting s2 t
+  pub all_made : {A : Type 0} (m : FsAction A) (x : A) (c : Change) (old mid new : D) (s s2 t : FsState) (F : Type 0) → (F → ⊥) → HasStored known geometry infos tells image tick since faults failed_changes m x c old mid s s2 → IsResetting s2 t → resettable_zones t ≡ []
       → ChangesDevice known geometry tells image tick since faults failed_changes mid new F (λ j. Stands (image mid) s2 → MountsTheSame (image mid) j)
       → KeepsOtherData infos tells image (is_free s2.geometry (recorded s2)) mid new
       → infos_in t ≡ infos new → (CanWrite s2 → CanWrite t) → (tells → Stands (image mid) s2 → Follows (image mid) (image new) s2 t)
       → MakesChange known geometry infos tells image tick since faults failed_changes m c old new s t (Ok x)
-  all_made m x c old mid new s s2 t F worked stored steps way device kept told writes follows = record {
-    steps = steps;
+  all_made m x c old mid new s s2 t F worked stored way none device kept told writes follows = record {
+    steps = stored.ends.complete t way none;
     unwritten = λ h. absurd h;
-    device = device_behind _ c old mid new s s2 F (λ f. absurd (worked f)) (λ is. cc) stored device;
-    kept = kept_behind c old mid new s s2 t stored way kept;
-    extents = extents_behind c old mid s s2 t stored way;
+    device = device_behind m x _ c old mid new s s2 F (λ f. absurd (worked f)) (λ is. cc) stored device;
+    kept = kept_behind m x c old mid new s s2 t stored way kept;
+    extents = extents_behind m x c old mid s s2 t stored way;
     shape = (resets_keep_files s2 t way).0.geometry ∙ stored.shape;
     told = told;
     writes = writes stored.writes;

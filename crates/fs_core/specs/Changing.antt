@@ -12,11 +12,14 @@ use Rattle.fs_model.specs.CrashClauses.{shown_tree}
 use Rattle.fs_model.specs.FsState.{FsState, descriptor_at, recorded}
 use Rattle.fs_model.specs.LogSteps.{FsAction}
 use Rattle.fs_model.specs.Trace.{Refines}
+use Rattle.log_roll.specs.DataKept.{KeepsData}
 use Rattle.log_roll.specs.DeviceSteps.{ChangesDevice}
 use Rattle.log_store.specs.OtherData.{KeepsOtherData}
 use Rattle.change_records.specs.PinnedRows.{AreSomeOf}
 use Rattle.change_cover.specs.Left.{IsLeftOf}
+use Rattle.change_steps.specs.Endings.{Ends}
 use Rattle.change_cover.specs.Rests.{Stands}
+use Rattle.change_cover.specs.SameTrees.{MountsTheSame}
 use Rattle.fs_tables.specs.Steps.{infos_in}
 use Rattle.fs_core.specs.DeadZones.{is_free}
 use Rattle.fs_core.specs.FsValue.{CanWrite}
@@ -49,6 +52,19 @@ pub record MakesChange {D A : Type 0} (known : D → Type 0) (geometry : D → G
   pub writes : OnOk result (CanWrite t)
   pub stands : OnOk result (tells → Stands (image old) s → Stands (image new) t)
   pub failed : IsErrOf result DevFault → tells → Stands (image old) s → (t ≡ s) ⊎ LeavesAfter (image old) s c (image new)
+
+-- A change that is stored, before the zones are reset that nothing needs any more: the state t stands where s stood, and what a
+-- crash leaves then is left of the tree after the change.
+pub record HasStored {D A : Type 0} (known : D → Type 0) (geometry : D → Geometry) (infos : D → List ZoneInfo) (tells : Type 0) (image : D → Image) (tick : D → ℕ) (since : D → ℕ → Image → Type 0) (faults failed_changes : D → ℕ) (m : FsAction A) (x : A) (c : Change) (old new : D) (s t : FsState) : Type 0 where
+  pub ends : Ends m x s t
+  pub told : infos_in t ≡ infos new
+  pub writes : CanWrite t
+  pub stands : tells → Stands (image old) s → Stands (image new) t
+  pub device : ChangesDevice known geometry tells image tick since faults failed_changes old new ⊥ (LeftByChange (image old) s c)
+  pub left : tells → Stands (image old) s → (k : Image) → MountsTheSame (image new) k → IsLeftOf (image old) (apply c (shown_tree (image old) s) ∷ []) k
+  pub kept : KeepsData infos tells image old new
+  pub extents : AreSomeOf (all_extents (recorded t)) (all_extents (recorded s))
+  pub shape : t.geometry ≡ s.geometry
 
 -- the log takes a further record: it may be ended, it has a block, and another zone can become active
 pub record LogGoesOn (s : FsState) : Type 0 where

@@ -7,3 +7,4 @@ pub mod Storing
 pub mod Reading
 pub mod Changing
 pub mod Granting
+pub mod NameCalls

@@ -4,10 +4,12 @@
 mod beginning;
 mod check;
 mod dead_zones;
+mod deleting;
 mod error;
 mod file_system;
 mod granting;
 mod mount;
+mod mount_write;
 mod new_log;
 mod prepared;
 mod queries;

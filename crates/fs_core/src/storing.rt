@@ -101,23 +101,23 @@ fn store_rolled<D: ZonedDevice>(
 pub(crate) fn store_record<D: ZonedDevice>(
     dev: &mut D,
     tables: &mut FsTables,
-    prepared: &mut PreparedRecord,
+    mut prepared: PreparedRecord,
 ) -> Result<(), DevFault>
     requires is_known { D.known dev.old }
     requires same_geometry { D.geometry dev.old ≡ tables.old.state.geometry }
     requires told { infos_in tables.old.state ≡ D.infos dev.old }
     requires can_write { CanWrite tables.old.state }
     requires selected { D.tells → selected_log (D.image dev.old) ≡ Ok tables.old.state.log }
-    requires memory { HasMemory tables.old.state prepared.old }
-    requires granted { lacks_sequence tables.old.state (length prepared.old.added.blocks) ≡ false }
-    requires room { new_log_blocks tables.old.state + length prepared.old.added.blocks < tables.old.state.geometry.capacity }
-    ensures state { OnOk result (tables.new.state ≡ after_record (length prepared.old.added.blocks) tables.old.state) }
+    requires memory { HasMemory tables.old.state prepared }
+    requires granted { lacks_sequence tables.old.state (length prepared.added.blocks) ≡ false }
+    requires room { new_log_blocks tables.old.state + length prepared.added.blocks < tables.old.state.geometry.capacity }
+    ensures state { OnOk result (tables.new.state ≡ after_record (length prepared.added.blocks) tables.old.state) }
     ensures same { OnErr result (tables.new ≡ tables.old) }
     ensures told { OnOk result (infos_in tables.new.state ≡ D.infos dev.new) }
     ensures spare { HasSameRoom tables.old tables.new }
-    ensures stands { OnOk result (D.tells → StoresChange prepared.old.added.blocks (D.image dev.old) tables.old.state (D.image dev.new) tables.new.state.log) }
+    ensures stands { OnOk result (D.tells → StoresChange prepared.added.blocks (D.image dev.old) tables.old.state (D.image dev.new) tables.new.state.log) }
     ensures device { ChangesDevice D.known D.geometry D.tells D.image D.tick D.since D.faults D.failed_changes dev.old dev.new (IsErr result)
-        (LeavesChange prepared.old.added.blocks (D.image dev.old) tables.old.state) }
+        (LeavesChange prepared.added.blocks (D.image dev.old) tables.old.state) }
     ensures data_kept { KeepsData D.infos D.tells D.image dev.old dev.new }
     ensures goes_on { OnOk result (LogGoesOn tables.new.state) }
 {

@@ -1,5 +1,5 @@
-use Rattle.std.proofs.Common.{refl, inr, ap, sym, ◌∙◌}
-use Rattle.fs_model.specs.FsState.{FsState, recorded}
+use Rattle.std.proofs.Common.{inr, ap}
+use Rattle.fs_model.specs.FsState.{recorded}
 use Rattle.log_roll.proofs.DeviceCalls.{done_then}
 use Rattle.fs_core.specs.Beginning.{LeftByBeginning}
 use Rattle.fs_core.specs.DeadZones.{is_free}

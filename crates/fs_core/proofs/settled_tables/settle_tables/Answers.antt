@@ -1,4 +1,4 @@
-use Rattle.std.proofs.Common.{◌≡◌, ◌+◌, ◌<◌, ◌∙◌, map, false, ap, sym, subst, arith}
+use Rattle.std.proofs.Common.{◌≡◌, ◌<◌, ◌∙◌, map, false, ap, sym, subst, arith}
 use Rattle.std.specs.Prelude.{drop}
 use Rattle.zone_image.specs.Infos.{active_zones, info_at}
 use Rattle.fs_model.specs.FsState.{FsState}
