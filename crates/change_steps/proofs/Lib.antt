@@ -5,3 +5,8 @@ pub mod EndingLaws
 pub mod NameLaws
 pub mod MountLaws
 pub mod CheckLaws
+pub mod ClearedRows
+pub mod ClearedLengths
+pub mod RollRoom
+pub mod MountRoom
+pub mod BehindLaws

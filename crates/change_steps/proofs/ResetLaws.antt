@@ -64,7 +64,7 @@ pub resets_answer : ResetsAnswer
 resets_answer s = sure_resets.ok s
 
 -- a reset of each zone keeps the files and the log
-each_keeps : (zones : List ℕ) (s : FsState) → KeepsFiles s (each reset_zone zones s).last × ((each reset_zone zones s).last.log ≡ s.log)
+pub each_keeps : (zones : List ℕ) (s : FsState) → KeepsFiles s (each reset_zone zones s).last × ((each reset_zone zones s).last.log ≡ s.log)
 each_keeps [] s = (same_files s, refl)
 each_keeps (z ∷ zs) s =
     let rest = each_keeps zs (after_reset z s) in

@@ -4,3 +4,4 @@ pub mod Endings
 pub mod NameChanges
 pub mod WriteMount
 pub mod Checking
+pub mod Behind

@@ -2,6 +2,7 @@
 //! function does nothing, and its contract is a law.
 #![tactic(auto)]
 
+pub mod behind;
 pub mod checks;
 pub mod endings;
 pub mod mounting;
