@@ -16,7 +16,7 @@ mod superblock_lines;
 mod tests;
 
 pub use cause::Cause;
-pub use listing::list_text;
+pub use listing::{Line, list_text, push_lines, text_of_lines};
 pub use making::{made_fs_text, made_image_text};
 pub use mem_sink::MemSink;
 pub use out_sink::OutSink;

@@ -1,15 +1,16 @@
 // The list of names.
-ghost use Rattle.std.specs.Prelude.{◌≡◌, [], ◌∷◌, ◌++◌, map, decimal, flat_map, string_bytes, IfOk, OnOk};
+ghost use Rattle.std.specs.Prelude.{◌≡◌, List, [], ◌∷◌, ◌++◌, map, decimal, flat_map, string_bytes, IfOk, OnOk};
 ghost use Rattle.std.specs.Option.{option_copied};
 ghost use Rattle.command_model.specs.ReportTexts.{in_twelve, list_line, list_text, listed_in_order, listed_names};
+ghost use Rattle.record_model.specs.declared.types.FileEntry.{FileEntry};
 ghost use Rattle.fs_report.specs.Lines.{folder_of, listed_of, listed_text};
 
 use record_model::{FileEntry, Name, Payload};
 use std::alloc::{AllocError, Global};
 
 /// One line of the list: a name with the size and the time of its file.
-#[derive(Clone, Copy)]
-struct Line<'a> {
+#[derive(Clone, Copy, Debug)]
+pub struct Line<'a> {
     name: &'a [u8],
     size: u64,
     time: u64,
@@ -26,8 +27,8 @@ fn lines_of<'a>(alloc: Global, files: &'a [FileEntry]) -> Result<Vec<Line<'a>>, 
     Ok(lines)
 }
 
-// Adds the lines of a file.
-fn push_lines<'a>(lines: &mut Vec<Line<'a>>, file: &'a FileEntry) -> Result<(), AllocError>
+/// Adds the lines of a file, one for each of its names.
+pub fn push_lines<'a>(lines: &mut Vec<Line<'a>>, file: &'a FileEntry) -> Result<(), AllocError>
     ensures { OnOk result (map listed_of lines.new.items ≡ map listed_of lines.old.items ++ listed_names file.now) }
 {
     for name in file.names.items() {
@@ -114,7 +115,19 @@ pub fn list_text(
     ensures { IfOk result (λ text. text ≡ list_text files.now (option_copied prefix.entry)) }
 {
     let mut lines = lines_of(alloc, files)?;
-    sort_lines(&mut lines)?;
+    text_of_lines(alloc, &mut lines, prefix)
+}
+
+/// The same of the lines of some files, in whatever order they were added; they are sorted.
+pub fn text_of_lines(
+    alloc: Global,
+    lines: &mut Vec<Line<'_>>,
+    prefix: Option<&Name>,
+) -> Result<Payload, AllocError>
+    ensures { (files : List FileEntry) → map listed_of lines.old.items ≡ flat_map listed_names files
+        → IfOk result (λ text. text ≡ list_text files (option_copied prefix.entry)) }
+{
+    sort_lines(lines)?;
     let folder = folder_of(alloc, prefix)?;
-    Ok(Payload::from_vec(texts_of(alloc, &folder, &lines)?))
+    Ok(Payload::from_vec(texts_of(alloc, &folder, lines)?))
 }
