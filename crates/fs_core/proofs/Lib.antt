@@ -8,6 +8,8 @@ pub mod StoredLog
 pub mod StoredChange
 pub mod Pieces
 pub mod FileRows
+pub mod HeldBytes
+pub mod Agreeing
 pub mod WritingGoesOn
 pub mod MadeChanges
 pub mod SettledWrites
@@ -16,4 +18,3 @@ pub mod ChangeRoom
 pub mod Refusals
 pub mod AskedChanges
 pub mod Deletions
-pub mod HeldBytes

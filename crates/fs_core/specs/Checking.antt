@@ -1,6 +1,7 @@
 -- Changes of the tree that are asked about before anything is done.
-use Rattle.std.specs.Prelude.{◌≡◌, ℕ, Bool, true, false, Option, Result, Err, nat_lt}
+use Rattle.std.specs.Prelude.{◌≡◌, ⊤, ℕ, Bool, true, false, Option, Result, Err, nat_lt}
 use Rattle.fs_model.specs.declared.error.FsError.{FsError}
+use Rattle.fs_model.specs.declared.error.FsError.TheVariants.{DevFault, NoMemory}
 use Rattle.fs_model.specs.FsState.{FsState}
 use Rattle.fs_model.specs.Trace.{Refines}
 use Rattle.fs_model.specs.LogSteps.{FsAction, NoValue, at_sequence_end}
@@ -32,3 +33,9 @@ IsRefusedBy blocks writing s e = (change : FsAction NoValue) (d : Demand) → As
 abbrev pub PassesLog : Bool → ℕ → FsState → Type 0
 PassesLog true blocks s = lacks_sequence s blocks ≡ false
 PassesLog false blocks s = (at_sequence_end s ≡ false) × (nat_lt s.geometry.capacity (mount_need s) ≡ false)
+
+-- an error that is neither want of memory nor a fault of the device
+abbrev pub IsNoFailure : FsError → Type 0
+IsNoFailure NoMemory = ⊥
+IsNoFailure DevFault = ⊥
+IsNoFailure _ = ⊤

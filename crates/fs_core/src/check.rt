@@ -7,7 +7,7 @@ ghost use Rattle.fs_model.specs.LogSteps.{at_sequence_end};
 ghost use Rattle.change_steps.specs.Checking.{create_only};
 ghost use Rattle.change_steps.specs.Endings.{lacks_sequence};
 ghost use Rattle.change_steps.specs.WriteMount.{mount_need};
-ghost use Rattle.fs_core.specs.Checking.{AnswersDemand, IsRefusedBy, PassesLog, action_of};
+ghost use Rattle.fs_core.specs.Checking.{AnswersDemand, IsNoFailure, IsRefusedBy, PassesLog, action_of};
 
 use crate::file_system::Fs;
 use fs_model::FsError;
@@ -18,9 +18,11 @@ use zoned_device::ZonedDevice;
 impl<D: ZonedDevice> Fs<D> {
     /// What a change would answer before any call of the device (`answer`). On a mount that doesn't write yet it is judged
     /// as behind a mount for writing: the names first, then the sequence and the room of that mount, and then the room for
-    /// the change. `Stopped` comes exactly where a change of the device has failed (`stopped`). It takes no memory.
+    /// the change. `Stopped` comes exactly where a change of the device has failed (`stopped`). It takes no memory, and is never
+    /// refused for want of it, nor for a fault (`early`).
     pub fn check(&self, change: &Change) -> Result<(), FsError>
         ensures stopped { IsErrOf result FsError.Stopped ↔ (self.now.stopped ≡ true) }
+        ensures early { IfErr result IsNoFailure }
         ensures answer { self.now.stopped ≡ false → (now : ℕ) → Refines (check self.now.writing (action_of now change.now)) self.now.state result self.now.state }
     {
         if self.stopped {
@@ -50,6 +52,7 @@ pub enum Change {
 /// have to be mounted for writing before. It takes no memory.
 pub(crate) fn check_change(tables: &FsTables, writing: bool, change: &Change) -> Result<(), FsError>
     ensures goes_on { IsErrOf result FsError.Stopped → ⊥ }
+    ensures early { IfErr result IsNoFailure }
     ensures answer { (now : ℕ) → Refines (check writing (action_of now change.now)) tables.now.state result tables.now.state }
 {
     match change {
@@ -63,6 +66,7 @@ pub(crate) fn check_change(tables: &FsTables, writing: bool, change: &Change) ->
 // The same of a new file.
 fn check_create(tables: &FsTables, writing: bool, name: &Name, sparse: bool) -> Result<(), FsError>
     ensures goes_on { IsErrOf result FsError.Stopped → ⊥ }
+    ensures early { IfErr result IsNoFailure }
     ensures answer { (hint now : ℕ) → Refines (check writing (create_only name.now hint sparse now)) tables.now.state result tables.now.state }
 {
     if tables.files().find(name).is_some() {
@@ -77,6 +81,7 @@ fn check_create(tables: &FsTables, writing: bool, name: &Name, sparse: bool) -> 
 // The same of one more name.
 fn check_link(tables: &FsTables, writing: bool, old: &Name, new: &Name) -> Result<(), FsError>
     ensures goes_on { IsErrOf result FsError.Stopped → ⊥ }
+    ensures early { IfErr result IsNoFailure }
     ensures answer { Refines (check writing (link old.now new.now)) tables.now.state result tables.now.state }
 {
     if tables.files().find(old).is_none() {
@@ -91,6 +96,7 @@ fn check_link(tables: &FsTables, writing: bool, old: &Name, new: &Name) -> Resul
 // The same of another name.
 fn check_rename(tables: &FsTables, writing: bool, old: &Name, new: &Name) -> Result<(), FsError>
     ensures goes_on { IsErrOf result FsError.Stopped → ⊥ }
+    ensures early { IfErr result IsNoFailure }
     ensures answer { Refines (check writing (rename old.now new.now)) tables.now.state result tables.now.state }
 {
     if tables.files().find(old).is_none() {
@@ -102,6 +108,7 @@ fn check_rename(tables: &FsTables, writing: bool, old: &Name, new: &Name) -> Res
 // The same of a deletion, which always has room.
 fn check_unlink(tables: &FsTables, writing: bool, name: &Name) -> Result<(), FsError>
     ensures goes_on { IsErrOf result FsError.Stopped → ⊥ }
+    ensures early { IfErr result IsNoFailure }
     ensures answer { Refines (check writing (delete name.now)) tables.now.state result tables.now.state }
 {
     if tables.files().find(name).is_none() {
@@ -116,6 +123,7 @@ fn check_unlink(tables: &FsTables, writing: bool, name: &Name) -> Result<(), FsE
 // Whether a change that needs this is refused for want of a sequence or of room.
 fn check_need(tables: &FsTables, writing: bool, asked: ChangeNeed) -> Result<(), FsError>
     ensures goes_on { IsErrOf result FsError.Stopped → ⊥ }
+    ensures early { IfErr result IsNoFailure }
     ensures answer { AnswersDemand (Some asked.need) asked.blocks writing tables.now.state result }
 {
     match check_log(tables, writing, asked.blocks) {
@@ -128,6 +136,7 @@ fn check_need(tables: &FsTables, writing: bool, asked: ChangeNeed) -> Result<(),
 // writing has no room for the table.
 fn check_log(tables: &FsTables, writing: bool, blocks: u64) -> Result<(), FsError>
     ensures goes_on { IsErrOf result FsError.Stopped → ⊥ }
+    ensures early { IfErr result IsNoFailure }
     ensures refused { IfErr result (IsRefusedBy blocks writing tables.now.state) }
     ensures passes { OnOk result (PassesLog writing blocks tables.now.state) }
 {
@@ -140,6 +149,7 @@ fn check_log(tables: &FsTables, writing: bool, blocks: u64) -> Result<(), FsErro
 // The same on a mount that writes.
 fn check_record(tables: &FsTables, blocks: u64) -> Result<(), FsError>
     ensures goes_on { IsErrOf result FsError.Stopped → ⊥ }
+    ensures early { IfErr result IsNoFailure }
     ensures refused { IfErr result (IsRefusedBy blocks true tables.now.state) }
     ensures passes { OnOk result (lacks_sequence tables.now.state blocks ≡ false) }
 {
@@ -152,6 +162,7 @@ fn check_record(tables: &FsTables, blocks: u64) -> Result<(), FsError>
 // The same on a mount that doesn't.
 fn check_mount(tables: &FsTables) -> Result<(), FsError>
     ensures goes_on { IsErrOf result FsError.Stopped → ⊥ }
+    ensures early { IfErr result IsNoFailure }
     ensures refused { (blocks : ℕ) → IfErr result (IsRefusedBy blocks false tables.now.state) }
     ensures passes { OnOk result ((at_sequence_end tables.now.state ≡ false) × (nat_lt tables.now.state.geometry.capacity (mount_need tables.now.state) ≡ false)) }
 {
@@ -170,6 +181,7 @@ fn check_mount(tables: &FsTables) -> Result<(), FsError>
 fn check_room(tables: &FsTables, writing: bool, asked: ChangeNeed) -> Result<(), FsError>
     requires { PassesLog writing asked.blocks tables.now.state }
     ensures goes_on { IsErrOf result FsError.Stopped → ⊥ }
+    ensures early { IfErr result IsNoFailure }
     ensures answer { AnswersDemand (Some asked.need) asked.blocks writing tables.now.state result }
 {
     let capacity = tables.geometry().capacity;

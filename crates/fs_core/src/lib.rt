@@ -16,10 +16,13 @@ mod queries;
 mod reading;
 mod settled_tables;
 mod shown;
+mod standing;
 mod storing;
 mod tables;
 #[cfg(test)]
 mod tests;
+#[cfg(test)]
+mod write_tests;
 
 pub use check::Change;
 pub use error::{MountError, ReadError, Refused};

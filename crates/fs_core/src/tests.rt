@@ -13,7 +13,7 @@ use superblock_core::{AuxPath, Superblock, VersionText};
 use zone_image::Geometry;
 use zoned_device::{MemZones, ZonedDevice};
 
-const SHAPE: Geometry = Geometry {
+pub(crate) const SHAPE: Geometry = Geometry {
     block: 512,
     zone_blocks: 16,
     capacity: 16,
@@ -42,7 +42,7 @@ fn new_superblock() -> Result<Superblock, Fail>
 }
 
 // A name.
-fn name(alloc: Global, text: &str) -> Result<Name, Fail> {
+pub(crate) fn name(alloc: Global, text: &str) -> Result<Name, Fail> {
     match Name::read(alloc, text) {
         Ok(name) => Ok(name),
         Err(_) => Err("no name")?,
@@ -75,7 +75,7 @@ fn file(alloc: Global) -> Result<FileEntry, Fail> {
 }
 
 // A log of a superblock and a snapshot of that file.
-fn log(rt: &impl Abort, alloc: Global) -> Result<Vec<u8>, Fail> {
+pub(crate) fn log(rt: &impl Abort, alloc: Global) -> Result<Vec<u8>, Fail> {
     let mut bytes = [0; 512];
     new_superblock()?.encode(&mut bytes);
     let mut log = spell(alloc, &bytes, 512)?.items().to_vec(alloc)?;
@@ -112,7 +112,7 @@ fn refusal<D: ZonedDevice>(alloc: Global, dev: D) -> Result<MountError, Fail> {
 }
 
 // The sum of the bytes of a file that are read from an offset on, with room for 300, and how many they are.
-fn summed<D: ZonedDevice>(fs: &mut Fs<D>, name: &Name, offset: u64) -> (usize, u64) {
+pub(crate) fn summed<D: ZonedDevice>(fs: &mut Fs<D>, name: &Name, offset: u64) -> (usize, u64) {
     let mut out = [0u8; 300];
     let count = match fs.read(name, offset, &mut out) {
         Ok(count) => count,
