@@ -18,3 +18,5 @@ pub mod ChangeRoom
 pub mod Refusals
 pub mod AskedChanges
 pub mod Deletions
+pub mod Links
+pub mod FsChanges

@@ -1,5 +1,5 @@
 -- The ends of a call that changes names, each by one lemma.
-use Rattle.std.proofs.Common.{◌≡◌, ℕ, inl, inr, true, List, [], ◌∷◌, map, Result, Ok, Err, refl, sym, ◌∙◌, ap, subst}
+use Rattle.std.proofs.Common.{◌≡◌, ℕ, inl, inr, true, List, [], ◌∷◌, map, Ok, Err, refl, sym, ◌∙◌, ap, subst}
 use Rattle.std.specs.Prelude.{IsErrOf}
 use Rattle.zone_image.specs.declared.Geometry.{Geometry}
 use Rattle.zone_image.specs.declared.ZoneInfo.{ZoneInfo}
@@ -10,7 +10,7 @@ use Rattle.log_model.specs.FileTree.{Change, apply}
 use Rattle.log_model.specs.Headroom.{has_room}
 use Rattle.log_model.specs.Mounted.{all_extents}
 use Rattle.fs_model.specs.declared.error.FsError.{FsError}
-use Rattle.fs_model.specs.declared.error.FsError.TheVariants.{DevFault}
+use Rattle.fs_model.specs.declared.error.FsError.TheVariants.{DevFault, Stopped}
 use Rattle.fs_model.specs.CrashClauses.{shown_tree}
 use Rattle.fs_model.specs.FsState.{FsState, TableRow, recorded, working_of}
 use Rattle.fs_model.specs.LogSteps.{FsAction, resettable_zones}
@@ -31,10 +31,10 @@ use Rattle.change_cover.specs.Left.{IsLeftOf}
 use Rattle.change_cover.specs.Rests.{AreShown, Stands}
 use Rattle.change_cover.specs.SameTrees.{MountsTheSame}
 use Rattle.change_cover.specs.Stored.{IsChange, blocks_on}
-use Rattle.change_cover.proofs.ChangedTrees.{left_after_change}
+use Rattle.change_cover.proofs.ChangedTrees.{change_is_shown, left_after_change}
 use Rattle.change_cover.proofs.LeftTrees.{crash_is_left, left_of_more, same_tree_is_left}
 use Rattle.fs_tables.specs.Steps.{infos_in}
-use Rattle.fs_core.specs.Changing.{HasStored, IsUnwritten, LeftByChange, LogGoesOn, MakesChange}
+use Rattle.fs_core.specs.Changing.{HasStored, IsEarly, LeftByChange, LogGoesOn, MakesChange}
 use Rattle.fs_core.specs.DeadZones.{is_free}
 use Rattle.fs_core.specs.FsValue.{CanWrite}
 use Rattle.fs_core.specs.Storing.{LeavesChange, StoresChange}
@@ -48,8 +48,12 @@ after_change : (i j : Image) (s : FsState) (c : Change) → IsLeftOf i (apply c 
 after_change i j s c left = left_of_more i j (shown_tree i s ∷ []) (apply c (shown_tree i s) ∷ []) [] left
 
 -- an answer before anything is written is no fault
-no_fault : {A : Type 0} (e : FsError) → IsUnwritten {A = A} (Err e) → IsErrOf {T = A} (Err e) DevFault → ⊥
-no_fault {A = A} e unwritten is = subst (λ (r : Result A FsError). IsUnwritten r) is unwritten
+no_fault : {A : Type 0} (e : FsError) → IsEarly e → IsErrOf {T = A} (Err e) DevFault → ⊥
+no_fault e early is = let same : e ≡ DevFault = cc in subst (λ why. IsEarly why) same early
+
+-- nor one of a mount that is stopped
+no_stop : {A : Type 0} (e : FsError) → IsEarly e → IsErrOf {T = A} (Err e) Stopped → ⊥
+no_stop e early is = let same : e ≡ Stopped = cc in subst (λ why. IsEarly why) same early
 
 -- the recorded extents of the same rows on the same geometry lie in the same zones
 same_free : (s t : FsState) → KeepsFiles s t → (n : ℕ) → is_free t.geometry (recorded t) n ≡ is_free s.geometry (recorded s) n
@@ -58,22 +62,25 @@ same_free s t kept n = ap (λ g. is_free g (recorded t) n) kept.geometry ∙ ap 
 -- what a stored change leaves: the device D has its members as parameters
 module _ {D : Type 0} {known : D → Type 0} {geometry : D → Geometry} {infos : D → List ZoneInfo} {tells : Type 0} {image : D → Image} {tick : D → ℕ} {since : D → ℕ → Image → Type 0} {faults failed_changes : D → ℕ} (laws : KeepsMoments tells image tick since) where
   -- a refusal before anything is written
-  pub nothing_made : {A : Type 0} (m : FsAction A) (c : Change) (d : D) (s : FsState) (e : FsError) → known d → Refines m s (Err e) s → IsUnwritten {A = A} (Err e)
+  pub nothing_made : {A : Type 0} (m : FsAction A) (c : Change) (d : D) (s : FsState) (e : FsError) → known d → Refines m s (Err e) s → IsEarly e
       → MakesChange known geometry infos tells image tick since faults failed_changes m c d d s s (Err e)
-  nothing_made m c d s e is_known steps unwritten = record {
+  nothing_made m c d s e is_known steps early = record {
     steps = steps;
+    running = no_stop e early;
     unwritten = λ h. (refl, refl);
     device =
         done_as laws _ (LeftByChange (image d) s c)
         (nothing_done laws d (LeftByChange (image d) s c) is_known (λ j crash stands. before_change (image d) j s c (crash_is_left (image d) j s stands.rests stands.shown crash)))
-        (λ none. absurd none) (λ failed. no_fault e unwritten failed) (λ j told p. p);
+        (λ none. absurd none) (λ failed. no_fault e early failed) (λ j told p. p);
     kept = record { numbers = λ n data_zone other. refl; blocks = λ told n data_zone other. refl };
     extents = same_extents (all_extents (recorded s));
     shape = refl;
     told = tt;
     writes = tt;
     stands = tt;
-    failed = λ failed. absurd (no_fault e unwritten failed);
+    shown = tt;
+    done = tt;
+    failed = λ failed. absurd (no_fault e early failed);
   }
 
   -- a fault while the record is stored
@@ -85,6 +92,7 @@ module _ {D : Type 0} {known : D → Type 0} {geometry : D → Geometry} {infos 
       subst (λ u. MakesChange known geometry infos tells image tick since faults failed_changes m c old new s u (Err DevFault)) (sym same)
       (record {
         steps = steps;
+        running = λ is. cc;
         unwritten = λ h. absurd h;
         device = done_as laws _ (LeftByChange (image old) s c) device (λ f. refl) (λ is. fault) (λ j told p stands. p c r after stands change (spelled told));
         kept = others_of_all (is_free s.geometry (recorded s)) kept;
@@ -93,6 +101,8 @@ module _ {D : Type 0} {known : D → Type 0} {geometry : D → Geometry} {infos 
         told = tt;
         writes = tt;
         stands = tt;
+        shown = tt;
+        done = tt;
         failed = λ failed told stands. inl refl;
       })
 
@@ -118,6 +128,8 @@ module _ {D : Type 0} {known : D → Type 0} {geometry : D → Geometry} {infos 
         };
         stands = there;
         device = done_as laws ⊥ (LeftByChange (image old) s c) device worked (λ none. absurd none) (λ j says p stands. p c r after stands change (spelled says));
+        shown = λ says stands.
+            change_is_shown (image old) (image new) s t c r after stands change (there says stands) refl (record { geometry = shape says; blocks = λ n data_zone other. kept.blocks says n data_zone });
         left = λ says stands k same.
             left_after_change (image old) (image new) k s t c r after stands change (there says stands) refl
             (record { geometry = shape says; blocks = λ n data_zone other. kept.blocks says n data_zone })
@@ -157,6 +169,7 @@ module _ {D : Type 0} {known : D → Type 0} {geometry : D → Geometry} {infos 
       → MakesChange known geometry infos tells image tick since faults failed_changes m c old new s t (Err DevFault)
   partly_reset m x c old mid new s s2 t F fault stored way device kept = record {
     steps = stored.ends.fault_behind t way;
+    running = λ is. cc;
     unwritten = λ h. absurd h;
     device = device_behind m x _ c old mid new s s2 F (λ f. refl) (λ is. fault) stored device;
     kept = kept_behind m x c old mid new s s2 t stored way kept;
@@ -165,6 +178,8 @@ module _ {D : Type 0} {known : D → Type 0} {geometry : D → Geometry} {infos 
     told = tt;
     writes = tt;
     stands = tt;
+    shown = tt;
+    done = tt;
     failed = λ failed says stands. inr (λ k crash. stored.left says stands k (device.stands says k crash (stored.stands says stands)));
   }
 
@@ -176,6 +191,7 @@ module _ {D : Type 0} {known : D → Type 0} {geometry : D → Geometry} {infos 
       → MakesChange known geometry infos tells image tick since faults failed_changes m c old new s t (Ok x)
   all_made m x c old mid new s s2 t F worked stored way none device kept told writes follows = record {
     steps = stored.ends.complete t way none;
+    running = λ is. cc;
     unwritten = λ h. absurd h;
     device = device_behind m x _ c old mid new s s2 F (λ f. absurd (worked f)) (λ is. cc) stored device;
     kept = kept_behind m x c old mid new s s2 t stored way kept;
@@ -184,5 +200,7 @@ module _ {D : Type 0} {known : D → Type 0} {geometry : D → Geometry} {infos 
     told = told;
     writes = writes stored.writes;
     stands = λ says stands. (follows says (stored.stands says stands)).stands;
+    shown = λ says stands. (follows says (stored.stands says stands)).tree ∙ stored.shown says stands;
+    done = λ says stands k crash. stored.left says stands k (device.stands says k crash (stored.stands says stands));
     failed = λ failed. cc;
   }

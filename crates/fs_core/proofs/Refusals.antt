@@ -5,10 +5,14 @@ use Rattle.fs_model.specs.declared.error.FsError.{FsError}
 use Rattle.fs_model.specs.declared.error.FsError.TheVariants.{Stopped, Gone, InUse, NotFound, Exists, IdsEnd, SequenceEnd, MetaFull, NoSpace, Busy, NoMemory, DevFault}
 use Rattle.fs_model.specs.FsState.{FsState, TableRow, row_named}
 use Rattle.extent_map.specs.Lookups.{id_named}
-use Rattle.fs_model.specs.LogSteps.{FsAction}
+use Rattle.fs_model.specs.LogSteps.{FsAction, block_of, rows_need}
+use Rattle.log_model.specs.Headroom.{blocks_of_record}
+use Rattle.record_model.specs.declared.types.Record.{Record}
+use Rattle.fs_tables.specs.Needs.{IsNeed}
+use Rattle.fs_tables.specs.declared.blocks.ChangeNeed.{ChangeNeed}
 use Rattle.fs_model.specs.Trace.{Refines}
 use Rattle.change_steps.specs.Endings.{Asks, Demand}
-use Rattle.fs_core.specs.Granting.{IsWanting}
+use Rattle.fs_core.specs.Granting.{IsGranted, IsWanting}
 use Rattle.fs_core.specs.NameCalls.{IsRefusal}
 
 -- what is wanting refuses what asks for it
@@ -52,3 +56,15 @@ some_named name rows id h = with_row (row_named name rows) h
     with_row : (o : Option TableRow) → Some id ≡ option_map (λ (r : TableRow). r.entry.id) o → (r : TableRow) × (o ≡ Some r) × (r.entry.id ≡ id)
     with_row None is = absurd cc
     with_row (Some r) is = (r, refl, cc)
+
+-- what is needed is granted
+pub needed_granted : (s : FsState) (r : Record) (after : List TableRow) (need : ChangeNeed) → IsNeed need s r after → IsGranted s need.blocks (Some need.need)
+    → IsGranted s (blocks_of_record (block_of s) r) (Some (rows_need s after (blocks_of_record (block_of s) r)))
+needed_granted s r after need is granted =
+    subst (λ n. IsGranted s (blocks_of_record (block_of s) r) (Some n)) is.room (subst (λ n. IsGranted s n (Some need.need)) is.change granted)
+
+-- or it is wanting
+pub needed_wanting : (s : FsState) (r : Record) (after : List TableRow) (need : ChangeNeed) (why : FsError) → IsNeed need s r after → IsWanting s need.blocks (Some need.need) why
+    → IsWanting s (blocks_of_record (block_of s) r) (Some (rows_need s after (blocks_of_record (block_of s) r))) why
+needed_wanting s r after need why is wanting =
+    subst (λ n. IsWanting s (blocks_of_record (block_of s) r) (Some n) why) is.room (subst (λ n. IsWanting s n (Some need.need) why) is.change wanting)

@@ -7,7 +7,7 @@ use Rattle.zone_image.specs.Infos.{active_zones}
 use Rattle.log_model.specs.FileTree.{Change, apply}
 use Rattle.log_model.specs.Mounted.{all_extents}
 use Rattle.fs_model.specs.declared.error.FsError.{FsError}
-use Rattle.fs_model.specs.declared.error.FsError.TheVariants.{DevFault}
+use Rattle.fs_model.specs.declared.error.FsError.TheVariants.{DevFault, Exists, IdsEnd, MetaFull, NoMemory, NotFound, SequenceEnd, Stopped}
 use Rattle.fs_model.specs.CrashClauses.{shown_tree}
 use Rattle.fs_model.specs.FsState.{FsState, descriptor_at, recorded}
 use Rattle.fs_model.specs.LogSteps.{FsAction}
@@ -30,9 +30,23 @@ IsUnwritten (Err DevFault) = ⊥
 IsUnwritten (Err why) = Unit {0}
 IsUnwritten (Ok x) = ⊥
 
--- what a crash leaves of an image on which the state stands, while this change is made: the tree shown before it, or the one after it
+-- a refusal that comes before anything is written, on a mount that isn't stopped
+abbrev pub IsEarly : FsError → Type 0
+IsEarly NotFound = Unit {0}
+IsEarly Exists = Unit {0}
+IsEarly IdsEnd = Unit {0}
+IsEarly SequenceEnd = Unit {0}
+IsEarly (MetaFull need capacity) = Unit {0}
+IsEarly NoMemory = Unit {0}
+IsEarly _ = ⊥
+
+-- j is left of the tree that is shown, or of that tree with the change
+abbrev pub LeavesBoth : Image → FsState → Change → Image → Type 0
+LeavesBoth i s c j = IsLeftOf i (shown_tree i s ∷ apply c (shown_tree i s) ∷ []) j
+
+-- what a crash leaves of an image on which the state stands, while this change is made
 abbrev pub LeftByChange : Image → FsState → Change → Image → Type 0
-LeftByChange i s c j = Stands i s → IsLeftOf i (shown_tree i s ∷ apply c (shown_tree i s) ∷ []) j
+LeftByChange i s c j = Stands i s → LeavesBoth i s c j
 
 -- a crash leaves the tree after the change
 abbrev pub LeavesAfter : Image → FsState → Change → Image → Type 0
@@ -43,6 +57,7 @@ LeavesAfter i s c j = (k : Image) → IsCrash j k → IsLeftOf i (apply c (shown
 -- it writes, nothing is changed; after Ok the next change can be recorded, and the state stands where s stood.
 pub record MakesChange {D A : Type 0} (known : D → Type 0) (geometry : D → Geometry) (infos : D → List ZoneInfo) (tells : Type 0) (image : D → Image) (tick : D → ℕ) (since : D → ℕ → Image → Type 0) (faults failed_changes : D → ℕ) (m : FsAction A) (c : Change) (old new : D) (s t : FsState) (result : Result A FsError) : Type 0 where
   pub steps : Refines m s result t
+  pub running : IsErrOf result Stopped → ⊥
   pub unwritten : IsUnwritten result → (new ≡ old) × (t ≡ s)
   pub device : ChangesDevice known geometry tells image tick since faults failed_changes old new (IsErrOf result DevFault) (LeftByChange (image old) s c)
   pub kept : KeepsOtherData infos tells image (is_free s.geometry (recorded t)) old new
@@ -51,6 +66,8 @@ pub record MakesChange {D A : Type 0} (known : D → Type 0) (geometry : D → G
   pub told : OnOk result (infos_in t ≡ infos new)
   pub writes : OnOk result (CanWrite t)
   pub stands : OnOk result (tells → Stands (image old) s → Stands (image new) t)
+  pub shown : OnOk result (tells → Stands (image old) s → shown_tree (image new) t ≡ apply c (shown_tree (image old) s))
+  pub done : OnOk result (tells → Stands (image old) s → LeavesAfter (image old) s c (image new))
   pub failed : IsErrOf result DevFault → tells → Stands (image old) s → (t ≡ s) ⊎ LeavesAfter (image old) s c (image new)
 
 -- A change that is stored, before the zones are reset that nothing needs any more: the state t stands where s stood, and what a
@@ -61,6 +78,7 @@ pub record HasStored {D A : Type 0} (known : D → Type 0) (geometry : D → Geo
   pub writes : CanWrite t
   pub stands : tells → Stands (image old) s → Stands (image new) t
   pub device : ChangesDevice known geometry tells image tick since faults failed_changes old new ⊥ (LeftByChange (image old) s c)
+  pub shown : tells → Stands (image old) s → shown_tree (image new) t ≡ apply c (shown_tree (image old) s)
   pub left : tells → Stands (image old) s → (k : Image) → MountsTheSame (image new) k → IsLeftOf (image old) (apply c (shown_tree (image old) s) ∷ []) k
   pub kept : KeepsData infos tells image old new
   pub extents : AreSomeOf (all_extents (recorded t)) (all_extents (recorded s))

@@ -2,12 +2,14 @@
 #![tactic(auto)]
 
 mod beginning;
+mod change_names;
 mod check;
 mod dead_zones;
 mod deleting;
 mod error;
 mod file_system;
 mod granting;
+mod linking;
 mod mount;
 mod mount_write;
 mod new_log;

@@ -1,7 +1,7 @@
-use Rattle.std.proofs.Common.{ap, sym, ◌∙◌, ◌≡◌, ◌+◌, ◌-◌, ◌^◌}
+use Rattle.std.proofs.Common.{ap, sym, ◌∙◌, ◌+◌, ◌-◌, ◌^◌}
 use Rattle.std.specs.Prelude.{Some}
 use Rattle.fs_core.proofs.Checks.{another_id, none_named, some_named}
-use Rattle.std.proofs.lemmas.Bool.{eq-eqb, eqb-false}
+use Rattle.std.proofs.lemmas.Bool.{eq-eqb}
 use Rattle.change_steps.specs.Checking.{create_only}
 use Rattle.change_steps.specs.NameChanges.{create_demand}
 use Rattle.change_steps.proofs.CheckLaws.{create_only_finds_name, create_only_finds_no_id, create_only_asks, name_is_checked, id_is_checked}

@@ -1,4 +1,4 @@
-use Rattle.std.proofs.Common.{ap, sym, ◌∙◌, ◌≡◌}
+use Rattle.std.proofs.Common.{ap, sym}
 use Rattle.fs_core.proofs.Checks.{none_named, some_named}
 use Rattle.std.specs.Prelude.{Some}
 use Rattle.fs_model.specs.TreeSteps.{link}

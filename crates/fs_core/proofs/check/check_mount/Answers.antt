@@ -1,5 +1,5 @@
-use Rattle.std.proofs.Common.{ap, sym, subst, ◌∙◌, ◌<◌, ◌≤◌, ◌≡◌, ℕ, arith}
-use Rattle.std.specs.Prelude.{Err, true, false}
+use Rattle.std.proofs.Common.{ap, sym, subst, ◌∙◌, ◌<◌, ◌≡◌, ℕ}
+use Rattle.std.specs.Prelude.{false}
 use Rattle.fs_model.specs.declared.error.FsError.TheVariants.{MetaFull}
 use Rattle.change_steps.specs.WriteMount.{mount_need}
 use Rattle.fs_model.specs.LogSteps.{at_sequence_end}

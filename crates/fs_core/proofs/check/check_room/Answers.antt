@@ -1,4 +1,4 @@
-use Rattle.std.proofs.Common.{ap, sym, subst, ◌∙◌, ◌<◌, ◌≤◌, ◌≡◌, ℕ, arith}
+use Rattle.std.proofs.Common.{ap, sym, subst, ◌∙◌, ◌<◌, ◌≤◌, ◌≡◌, ℕ}
 use Rattle.fs_model.specs.declared.error.FsError.TheVariants.{MetaFull}
 use Rattle.std.specs.Prelude.{Err, Some}
 use Rattle.fs_core.specs.Checking.{AnswersDemand}

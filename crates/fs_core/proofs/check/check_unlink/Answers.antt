@@ -1,4 +1,4 @@
-use Rattle.std.proofs.Common.{ap, sym, ◌∙◌, ◌≡◌}
+use Rattle.std.proofs.Common.{sym}
 use Rattle.fs_core.proofs.Checks.{none_named, some_named, room_passes}
 use Rattle.std.specs.Prelude.{None, refl}
 use Rattle.fs_model.specs.TreeSteps.{delete}
