@@ -55,6 +55,10 @@ pub prepared_room : {A : Type 0} {m : FsAction A} {x : A} {s : FsState} {d : Dem
     → new_log_blocks s + length p.added.blocks < s.geometry.capacity
 prepared_room {s = s} asked prepared = subst (λ n. new_log_blocks s + n < s.geometry.capacity) (sym (prepared_count asked prepared)) asked.log
 
+-- behind a record the files are the same
+pub files_behind : (s s1 : FsState) (blocks : ℕ) → s1 ≡ after_record blocks s → KeepsFiles s s1
+files_behind s s1 blocks first = subst (λ u. KeepsFiles s u) (sym first) (record_keeps_files s blocks)
+
 -- the state in which it is stored
 pub stored_as : {A : Type 0} (m : FsAction A) (x : A) (s s1 s2 : FsState) (d : Demand) (c : Change) (r : Record) (p : PreparedRecord) → IsAsked m x s d c r → IsPrepared s r p
     → s1 ≡ after_record (length p.added.blocks) s → s2 ≡ record s1 { rows = d.after; greatest = d.greatest } → s2 ≡ stored_by d s
@@ -88,5 +92,5 @@ module _ {D : Type 0} {known : D → Type 0} {geometry : D → Geometry} {infos 
       → HasStored known geometry infos tells image tick since faults failed_changes m x c old new s s2
   is_stored m x s s1 s2 d c r p old new F worked asked prepared is_known shape first second shown room told goes_on stores device kept =
       has_stored laws m x c r d.after d.greatest p.added.blocks old new s s1 s2 F worked (subst (λ u. Ends m x s u) (sym (stored_as m x s s1 s2 d c r p asked prepared first second)) (asked_ends asked)) second asked.change (λ says. spelled_on s r p (geometry old) (infos old) (image old) (image_told old says is_known) shape prepared) shown room
-      (subst (λ u. KeepsFiles s u) (sym first) (record_keeps_files s (length p.added.blocks)))
+      (files_behind s s1 (length p.added.blocks) first)
       (λ says. (image_told new says device.still_known).shape ∙ device.same_geometry ∙ sym (image_told old says is_known).shape) told goes_on stores device kept

@@ -12,8 +12,7 @@ use Rattle.change_records.proofs.NameRecords.{unlink_is_recorded}
 use Rattle.change_records.proofs.PinnedRows.{unlink_adds_no_extent}
 use Rattle.change_records.proofs.TreesAfter.{unlink_changes_tree}
 use Rattle.change_records.proofs.Writable.{unlink_stays_writable}
-use Rattle.change_steps.specs.Recording.{KeepsFiles, after_record}
-use Rattle.change_steps.proofs.RecordLaws.{record_keeps_files}
+use Rattle.change_steps.specs.Recording.{after_record}
 use Rattle.change_steps.specs.NameChanges.{delete_demand}
 use Rattle.change_steps.proofs.NameLaws.{delete_asks}
 use Rattle.change_cover.specs.Rests.{AreShown}
@@ -24,7 +23,7 @@ use Rattle.fs_core.specs.FsValue.{CanWrite}
 use Rattle.fs_core.specs.NameCalls.{MayDelete}
 use Rattle.fs_core.specs.Storing.{IsPrepared, new_log_blocks}
 use Rattle.fs_core.specs.declared.prepared.PreparedRecord.{PreparedRecord}
-use Rattle.fs_core.proofs.AskedChanges.{IsAsked}
+use Rattle.fs_core.proofs.AskedChanges.{IsAsked, files_behind}
 use Rattle.fs_core.proofs.ChangeRoom.{deletion_fits, short_len}
 
 -- its record is that of a change of names
@@ -72,13 +71,13 @@ deletion_fits_zone s name r is can may made =
 pub rows_deleted : (s s1 s2 : FsState) (name : List ℕ) (blocks : ℕ) → s1 ≡ after_record blocks s → s2 ≡ record s1 { rows = drop_name name s1.rows }
     → s2 ≡ record s1 { rows = drop_name name s.rows; greatest = s.greatest }
 rows_deleted s s1 s2 name blocks first second =
-    let kept = subst (λ u. KeepsFiles s u) (sym first) (record_keeps_files s blocks) in
+    let kept = files_behind s s1 blocks first in
     second ∙ ap (λ (rows : List TableRow). record s1 { rows = drop_name name rows }) kept.rows ∙ ap (λ n. record s1 { rows = drop_name name s.rows; greatest = n }) kept.greatest
 
 -- the file is there still
 pub still_there : (s s1 : FsState) (name : List ℕ) (r : TableRow) (blocks : ℕ) → s1 ≡ after_record blocks s → row_named name s.rows ≡ Some r → IsSome (row_named name s1.rows)
 still_there s s1 name r blocks first found =
-    let kept = subst (λ u. KeepsFiles s u) (sym first) (record_keeps_files s blocks) in
+    let kept = files_behind s s1 blocks first in
     subst (λ (o : Option TableRow). IsSome o) (sym (ap (λ (rows : List TableRow). row_named name rows) kept.rows ∙ found)) refl
 
 -- the rows after it are shown

@@ -19,4 +19,6 @@ pub mod Refusals
 pub mod AskedChanges
 pub mod Deletions
 pub mod Links
+pub mod Renames
+pub mod Creations
 pub mod FsChanges

@@ -15,9 +15,8 @@ use Rattle.change_records.proofs.PinnedRows.{names_add_no_extent}
 use Rattle.change_records.proofs.TreesAfter.{link_changes_tree}
 use Rattle.change_records.proofs.Writable.{link_stays_writable}
 use Rattle.change_steps.specs.NameChanges.{link_demand}
-use Rattle.change_steps.specs.Recording.{KeepsFiles, after_record}
+use Rattle.change_steps.specs.Recording.{after_record}
 use Rattle.change_steps.proofs.NameLaws.{link_asks}
-use Rattle.change_steps.proofs.RecordLaws.{record_keeps_files}
 use Rattle.change_cover.specs.Rests.{AreShown}
 use Rattle.change_cover.specs.Stored.{IsChange}
 use Rattle.change_cover.proofs.PointLaws.{names_set_no_point}
@@ -27,7 +26,7 @@ use Rattle.fs_tables.specs.MountedTables.{IsSoundState}
 use Rattle.fs_core.specs.FsValue.{CanWrite}
 use Rattle.fs_core.specs.NameCalls.{MayLink}
 use Rattle.fs_core.specs.Storing.{new_log_blocks}
-use Rattle.fs_core.proofs.AskedChanges.{IsAsked}
+use Rattle.fs_core.proofs.AskedChanges.{IsAsked, files_behind}
 use Rattle.fs_core.proofs.ChangeRoom.{HasChangeRoom, granted_room, short_len, short_snapshot}
 
 -- the update with one more name
@@ -74,33 +73,29 @@ link_fits_zone s old new r is may made =
     let room = link_room s old new is may in
     omega (arith, count, room.log)
 
--- behind the record the files are the same
-behind : (s s1 : FsState) (blocks : ℕ) → s1 ≡ after_record blocks s → KeepsFiles s s1
-behind s s1 blocks first = subst (λ u. KeepsFiles s u) (sym first) (record_keeps_files s blocks)
-
 -- the rows after it, once they are there
 pub rows_linked : (s s1 s2 : FsState) (old new : List ℕ) (blocks : ℕ) (may : MayLink s old new) → s1 ≡ after_record blocks s
     → ForSome (row_named old s1.rows) (λ r. s2 ≡ record s1 { rows = linked_rows new r s1.rows })
     → s2 ≡ record s1 { rows = linked_rows new may.row s.rows; greatest = s.greatest }
 rows_linked s s1 s2 old new blocks may first second =
-    let kept = behind s s1 blocks first in
+    let kept = files_behind s s1 blocks first in
     second may.row (ap (λ (rows : List TableRow). row_named old rows) kept.rows ∙ may.found)
     ∙ ap (λ (rows : List TableRow). record s1 { rows = linked_rows new may.row rows }) kept.rows ∙ ap (λ n. record s1 { rows = linked_rows new may.row s.rows; greatest = n }) kept.greatest
 
 -- the file is there still
 pub link_still_there : (s s1 : FsState) (old new : List ℕ) (blocks : ℕ) (may : MayLink s old new) → s1 ≡ after_record blocks s → IsSome (row_named old s1.rows)
 link_still_there s s1 old new blocks may first =
-    subst (λ (o : Option TableRow). IsSome o) (sym (ap (λ (rows : List TableRow). row_named old rows) (behind s s1 blocks first).rows ∙ may.found)) refl
+    subst (λ (o : Option TableRow). IsSome o) (sym (ap (λ (rows : List TableRow). row_named old rows) (files_behind s s1 blocks first).rows ∙ may.found)) refl
 
 -- the room that was made for it is there still
 pub link_still_reserved : (s s1 : FsState) (old : List ℕ) (blocks : ℕ) (reserved there : Option ℕ) → s1 ≡ after_record blocks s → there ≡ reserved
     → ForSome (row_named old s.rows) (λ r. reserved ≡ Some r.entry.id) → ForSome (row_named old s1.rows) (λ r. there ≡ Some r.entry.id)
 link_still_reserved s s1 old blocks reserved there first same h =
-    subst (λ (rows : List TableRow). ForSome (row_named old rows) (λ r. there ≡ Some r.entry.id)) (sym (behind s s1 blocks first).rows) (λ r is. same ∙ h r is)
+    subst (λ (rows : List TableRow). ForSome (row_named old rows) (λ r. there ≡ Some r.entry.id)) (sym (files_behind s s1 blocks first).rows) (λ r is. same ∙ h r is)
 
 -- no file has the new name still
 pub link_still_free : (s s1 : FsState) (old new : List ℕ) (blocks : ℕ) (may : MayLink s old new) → s1 ≡ after_record blocks s → row_named new s1.rows ≡ None
-link_still_free s s1 old new blocks may first = ap (λ (rows : List TableRow). row_named new rows) (behind s s1 blocks first).rows ∙ may.free
+link_still_free s s1 old new blocks may first = ap (λ (rows : List TableRow). row_named new rows) (files_behind s s1 blocks first).rows ∙ may.free
 
 -- the same row
 same_row : (q r : TableRow) (o : Option TableRow) → o ≡ Some r → o ≡ Some q → r ≡ q
@@ -110,7 +105,7 @@ same_row q r o here there = cc
 pub link_is_short : (s s1 : FsState) (old new : List ℕ) (blocks : ℕ) → IsSoundState s → (may : MayLink s old new) → s1 ≡ after_record blocks s
     → ForSome (row_named old s1.rows) (λ r. snapshot_len (linked_rows new r s1.rows) < 2 ^ 62)
 link_is_short s s1 old new blocks is may first =
-    subst (λ (rows : List TableRow). ForSome (row_named old rows) (λ r. snapshot_len (linked_rows new r rows) < 2 ^ 62)) (sym (behind s s1 blocks first).rows)
+    subst (λ (rows : List TableRow). ForSome (row_named old rows) (λ r. snapshot_len (linked_rows new r rows) < 2 ^ 62)) (sym (files_behind s s1 blocks first).rows)
     (λ r there. subst (λ (q : TableRow). snapshot_len (linked_rows new q s.rows) < 2 ^ 62) (same_row r may.row (row_named old s.rows) may.found there)
     (short_snapshot s (linked_rows new may.row s.rows) is.sound.valid (link_room s old new is may).table))
 

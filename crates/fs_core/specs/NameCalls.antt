@@ -1,10 +1,13 @@
 -- When changes of names may be made, by their tests.
 use Rattle.std.specs.Prelude.{◌≡◌, ℕ, ◌-◌, ◌^◌, ◌==◌, Bool, false, List, Some, None, Err, IsTrue}
 use Rattle.record_model.specs.Name.{is_name}
+use Rattle.record_model.specs.declared.types.Record.{Record}
 use Rattle.fs_model.specs.declared.error.FsError.{FsError}
 use Rattle.fs_model.specs.FsState.{FsState, TableRow, row_named}
 use Rattle.fs_model.specs.LogSteps.{FsAction}
 use Rattle.fs_model.specs.Trace.{Refines}
+use Rattle.fs_model.specs.TreeSteps.{entry_in, entry_update}
+use Rattle.change_records.specs.NameRecords.{rows_renamed}
 use Rattle.change_steps.specs.Endings.{Demand}
 use Rattle.change_steps.specs.NameChanges.{create_demand, delete_demand, link_demand, rename_demand}
 use Rattle.fs_core.specs.Changing.{IsEarly}
@@ -33,6 +36,10 @@ pub record MayLink (s : FsState) (old new : List ℕ) : Type 0 where
   pub free : row_named new s.rows ≡ None
   pub named : IsTrue (is_name new)
   pub granted : IsDemandGranted s (link_demand s row new)
+
+-- the update that a rename writes
+abbrev pub rename_update : FsState → TableRow → List ℕ → List ℕ → Record
+rename_update s r old new = entry_update (entry_in r.entry.id (rows_renamed s.rows r old new) r.entry)
 
 -- a file may be renamed
 pub record MayRename (s : FsState) (old new : List ℕ) : Type 0 where

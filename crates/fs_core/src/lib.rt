@@ -4,6 +4,7 @@
 mod beginning;
 mod change_names;
 mod check;
+mod creating;
 mod dead_zones;
 mod deleting;
 mod error;
@@ -16,6 +17,7 @@ mod new_log;
 mod prepared;
 mod queries;
 mod reading;
+mod renaming;
 mod settled_tables;
 mod shown;
 mod standing;
