@@ -23,15 +23,15 @@ fn answer(rt: HostRuntime) -> Status {
     let mut err = OutSink::new(rt.stderr());
     let words = match words_of(rt) {
         Ok(words) => words,
-        Err(refusal) => return zenfs_cmd::refuse(&mut err, refusal),
+        Err(cause) => return zenfs_cmd::refuse(&mut err, cause),
     };
     let zones = match zones_of(rt, words.as_slice()) {
         Ok(zones) => zones,
-        Err(refusal) => return zenfs_cmd::refuse(&mut err, refusal),
+        Err(cause) => return zenfs_cmd::refuse(&mut err, cause),
     };
     let random = match random_bits(rt) {
         Ok(random) => random,
-        Err(refusal) => return zenfs_cmd::refuse(&mut err, refusal),
+        Err(cause) => return zenfs_cmd::refuse(&mut err, cause),
     };
     let (status, _) = zenfs_cmd::run(
         rt.alloc(),

@@ -1,18 +1,11 @@
 -- What the words of a command give.
 use Rattle.std.proofs.Common.{◌≡◌, Bool, true, false, List, [], ◌∷◌, refl}
 use Rattle.std.specs.Prelude.{Option, Some, None, IfSome, codes}
-use Rattle.log_model.specs.FileTree.{apply}
-use Rattle.log_model.proofs.TableLaws.{tree_without}
 use Rattle.log_model.specs.Format.{is_aux_path}
 use Rattle.command_model.specs.CommandLine as line
 use Rattle.command_model.specs.CommandLine.{Verb, command, command_with, geometry_in, path, shape_of, src_file, dst_file, threshold_in, verb_of, image}
 use Rattle.command_model.specs.Options.{Word, Setting, ◌>>=◌, only_if, value_in, settings_of}
-use Rattle.zenfs_cmd.specs.Laws.{DeletionUnlinks}
 use Rattle.zenfs_cmd.specs.Words.{HasAuxPath}
-
-pub deletion_unlinks : DeletionUnlinks
-unfolding apply
-deletion_unlinks i name es = tree_without i name es
 
 -- what holds of each value that a step may give
 then : {A B : Type 0} (P : B → Type 0) (o : Option A) (f : A → Option B) → ((x : A) → IfSome (f x) P) → IfSome (o >>= f) P

@@ -1,11 +1,8 @@
 pub mod Words
-pub mod Repeats
-pub mod SmallImage
-pub mod SmallTables
-pub mod Logs
-pub mod Deletion
+pub mod Walks
+pub mod Names
+pub mod Plans
 pub mod Reasons
-pub mod Refusals
 pub mod Printing
 pub mod Leaving
-pub mod Laws
+pub mod Made

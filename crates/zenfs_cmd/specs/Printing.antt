@@ -2,28 +2,26 @@
 use Rattle.std.specs.Prelude.{◌≡◌, ⊤, ℕ, List, [], ◌++◌, Option, Some, None, IsSome, IfSome, option_map}
 use Rattle.std.specs.Result.{result_ok}
 use Rattle.zone_image.specs.Image.{Image}
-use Rattle.superblock_core.specs.declared.superblock.Superblock.{Superblock}
-use Rattle.log_model.specs.LogSelection.{selected_log}
+use Rattle.fs_model.specs.FsState.{FsState, recorded, state_in}
 use Rattle.command_model.specs.CommandLine.{Command}
-use Rattle.command_model.specs.CommandLine.Command.{MakeImage, MakeFs, ListFiles, ShowInfo, DeleteFile}
+use Rattle.command_model.specs.CommandLine.Command.{MakeImage, MakeFs, ListFiles, ShowInfo, LinkFile, RenameFile, DeleteFile}
 use Rattle.command_model.specs.Options.{Word}
 use Rattle.command_model.specs.ReportTexts.{info_text, list_text, made_fs_text, made_image_text}
-use Rattle.zenfs_cmd.specs.declared.refusal.Refusal.{Refusal}
-use Rattle.zenfs_cmd.specs.declared.refusal.Refusal.TheVariants.{OutputFault}
+use Rattle.fs_report.specs.declared.cause.Cause.{Cause}
+use Rattle.fs_report.specs.declared.cause.Cause.TheVariants.{OutputFault}
 use Rattle.fs_report.specs.Written.{AddsFront}
-use Rattle.zenfs_cmd.specs.SmallTables.{small_table}
 
--- the list of an image of this form, or of its names under a prefix
+-- a text of the state that an image mounts to
+abbrev pub text_of_state : (FsState → List ℕ) → Image → Option (List ℕ)
+text_of_state text i = option_map text (result_ok (state_in i))
+
+-- the list of the files, or of the names under a prefix
 abbrev pub listed_text : Option Word → Image → Option (List ℕ)
-listed_text prefix i = option_map (λ es. list_text es prefix) (small_table i)
+listed_text prefix i = text_of_state (λ s. list_text (recorded s) prefix) i
 
--- the superblock of the log that counts
-abbrev pub shown_superblock : Image → Option Superblock
-shown_superblock i = option_map (λ chosen. chosen.superblock) (result_ok (selected_log i))
-
--- the lines on it
+-- the lines on the superblock of the log that counts
 abbrev pub shown_text : Image → Option (List ℕ)
-shown_text i = option_map info_text (shown_superblock i)
+shown_text i = text_of_state (λ s. info_text s.log.superblock) i
 
 -- what a command prints over an image
 abbrev pub output_text : Command → Image → Option (List ℕ)
@@ -31,11 +29,13 @@ output_text (MakeImage at g over) i = Some (made_image_text g)
 output_text (MakeFs at aux threshold collect over) i = Some (made_fs_text i.geometry)
 output_text (ListFiles at prefix) i = listed_text prefix i
 output_text (ShowInfo at) i = shown_text i
+output_text (LinkFile at old new) i = Some []
+output_text (RenameFile at old new) i = Some []
 output_text (DeleteFile at name) i = Some []
 output_text _ i = None
 
 -- nothing is printed before any refusal but that of the output
-abbrev pub IsSilent : Refusal → Type 0 → Type 0
+abbrev pub IsSilent : Cause → Type 0 → Type 0
 IsSilent OutputFault quiet = ⊤
 IsSilent _ quiet = quiet
 

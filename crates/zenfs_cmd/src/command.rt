@@ -1,43 +1,49 @@
 // What `zenfs` does.
-ghost use Rattle.std.specs.Prelude.{◌≡◌, ◌≢◌, ◌⊎◌, ◌↔◌, ◌++◌, ℕ, Bool, true, false, map, string_bytes, Some, None, OnOk, IfErr, IsErrOf};
+ghost use Rattle.std.specs.Prelude.{◌≡◌, ◌≢◌, ◌⊎◌, ◌↔◌, ◌++◌, ℕ, Bool, true, false, map, string_bytes, codes, Some, None, OnOk, IfErr, IsErrOf};
 ghost use Rattle.zone_image.specs.declared.Geometry.{Geometry};
 ghost use Rattle.zone_image.specs.Counts.{Rose};
 ghost use Rattle.zone_image.specs.Image.{Image};
 ghost use Rattle.zone_image.specs.Moments.{LeavesOnly};
-ghost use Rattle.record_model.specs.Name.{is_name};
+ghost use Rattle.log_model.specs.FileTree.{Tree, apply_all};
 ghost use Rattle.log_model.specs.Format.{new_superblock};
+ghost use Rattle.log_model.specs.Mounted.{MountsTo};
 ghost use Rattle.making_cmd.specs.Made.{IsBlank};
 ghost use Rattle.making_cmd.specs.NewFs.{HasNewFs};
+ghost use Rattle.fs_report.specs.declared.cause.Cause.{Cause};
 ghost use Rattle.fs_report.specs.declared.status.Status.TheVariants as status;
+ghost use Rattle.fs_report.specs.Causes.{cause_meant, ending};
 ghost use Rattle.command_model.specs.CommandLine as line;
-ghost use Rattle.command_model.specs.CommandLine.Command.{MakeImage, MakeFs, DeleteFile};
+ghost use Rattle.command_model.specs.CommandLine.Command.{MakeImage, MakeFs};
 ghost use Rattle.command_model.specs.Options.{Word};
-ghost use Rattle.zenfs_cmd.specs.declared.refusal.Refusal.{Refusal};
-ghost use Rattle.zenfs_cmd.specs.Deletion.{IsDeletedIn, IsDone};
-ghost use Rattle.zenfs_cmd.specs.Leaving.{Leaves, MayLeave};
+ghost use Rattle.command_model.specs.RefusalTexts.{refusal_text};
+ghost use Rattle.zenfs_cmd.specs.Leaving.{Leaves, LeavesChanged, MayLeave};
+ghost use Rattle.zenfs_cmd.specs.Plans.{changes_names, changes_of};
 ghost use Rattle.zenfs_cmd.specs.Printing.{IsCutShort, IsPrinted, IsSilent, output_text};
 ghost use Rattle.zenfs_cmd.specs.Reasons.{CanBeDone, HasReason, IsUnwritten};
-ghost use Rattle.zenfs_cmd.specs.Refusals.{refusal_status, refusal_text};
 ghost use Rattle.zenfs_cmd.specs.Words.{changes, command_in, makes_image};
 
 use crate::perform::perform;
-use crate::refusal::{Refusal, refuse};
+use crate::refusal::refuse;
 use crate::words::built_command;
-use fs_report::{Sink, Status};
+use fs_report::{Cause, Sink, Status};
 use std::alloc::Global;
 use zoned_device::ZonedDevice;
 
 /// Does all that `zenfs` does with these words over this device, and hands the device back. Results go
 /// to `out`, and the line of a refusal to `err`, of which a fault changes nothing. A new file system's
-/// identifier is made of the random bits. Built are `mkimage`, `mkfs`, `list`, `fs-info` and `delete`;
-/// the words of every other command are a bad command line.
+/// identifier is made of the random bits. Built are `mkimage`, `mkfs`, `list`, `fs-info`, `link`, `rename`
+/// and `delete`; the words of every other command are a bad command line.
 ///
-/// What a crash leaves is said of all commands but `mkimage` (`any_moment`). A crash within `mkfs` over an
-/// image whose every crash has a log that counts leaves the old file system, none, or the new one.
+/// `list`, `fs-info`, `link`, `rename` and `delete` mount the image, whatever log and files it has. A change of names
+/// is judged before anything is written, and is durable once it ends well (`changed`, `now`).
+///
+/// What a crash leaves is said of all commands but `mkimage` (`any_moment`). A crash within a change of names leaves
+/// the tree before it or after it. A crash within `mkfs` over an image whose every crash has a log that counts leaves
+/// the old file system, none, or the new one.
 pub fn run<D: ZonedDevice, O: Sink, E: Sink>(
     alloc: Global,
     words: &[String],
-    mut dev: D,
+    dev: D,
     out: &mut O,
     err: &mut E,
     random: u128,
@@ -57,23 +63,23 @@ pub fn run<D: ZonedDevice, O: Sink, E: Sink>(
         → command_in (map string_bytes words.now) ≡ Some (MakeFs at aux threshold collect over)
         → HasNewFs D.known D.geometry D.infos D.tells D.image (λ g. new_superblock g random aux threshold collect) dev result.1 }
 
-    // A deletion takes the name out of the table by one record, durably, and prints nothing: whatever a crash leaves then
-    // has the table without the name.
-    ensures deleted { result.0 ≡ status.Ok → (at name : Word) → command_in (map string_bytes words.now) ≡ Some (DeleteFile at name)
-        → (out.new ≡ out.old) × (is_name name ≡ true) × (D.tells → IsDone name (D.image dev) (D.image result.1)) }
-    ensures now { result.0 ≡ status.Ok → (at name : Word) → command_in (map string_bytes words.now) ≡ Some (DeleteFile at name)
-        → (j : Image) → D.since result.1 (D.tick result.1) j → IsDeletedIn name (D.image dev) j }
+    // A change of names is done as a whole, durably, and prints nothing: the image mounts to the tree with the change made,
+    // and so does whatever a crash leaves then.
+    ensures changed { result.0 ≡ status.Ok → (c : line.Command) → command_in (map string_bytes words.now) ≡ Some c → changes_names c ≡ true
+        → LeavesChanged (out.new ≡ out.old) D.tells c (D.image dev) (D.image result.1) }
+    ensures now { result.0 ≡ status.Ok → (c : line.Command) → command_in (map string_bytes words.now) ≡ Some c → changes_names c ≡ true
+        → (t : Tree) → MountsTo (D.image dev) t → (j : Image) → D.since result.1 (D.tick result.1) j → MountsTo j (apply_all (changes_of c) t) }
 
     // Every other end has its reason, and its line and no other is said.
-    ensures refused { result.0 ≢ status.Ok → (refusal : Refusal) × (result.0 ≡ refusal_status refusal)
+    ensures refused { result.0 ≢ status.Ok → (cause : Cause) × (result.0 ≡ ending cause)
         × HasReason (command_in (map string_bytes words.now))
         (Rose (D.faults dev) (D.faults result.1))
         (IsCutShort (Rose (O.faults out.old) (O.faults out.new)) (Leaves D.known D.geometry D.infos D.tells D.image (out.new ≡ out.old) random dev result.1)
         (D.tells × O.tells) (O.written out.old) (O.written out.new) (D.image dev))
-        D.tells (D.absent dev) (D.image dev) refusal
-        × IsSilent refusal (out.new ≡ out.old)
-        × IsUnwritten refusal (D.tells → D.image result.1 ≡ D.image dev)
-        × ((Rose (E.faults err.old) (E.faults err.new) → ⊥) → E.tells → E.written err.new ≡ E.written err.old ++ refusal_text refusal) }
+        D.tells (D.absent dev) (D.image dev) cause
+        × IsSilent cause (out.new ≡ out.old)
+        × IsUnwritten (command_in (map string_bytes words.now)) cause (D.tells → D.image result.1 ≡ D.image dev)
+        × ((Rose (E.faults err.old) (E.faults err.new) → ⊥) → E.tells → E.written err.new ≡ E.written err.old ++ refusal_text (codes "zenfs") (cause_meant cause)) }
 
     // What ends well had nothing against it.
     ensures allowed { result.0 ≡ status.Ok → (c : line.Command) → command_in (map string_bytes words.now) ≡ Some c
@@ -85,15 +91,16 @@ pub fn run<D: ZonedDevice, O: Sink, E: Sink>(
         → (result.0 ≡ status.Ok) ⊎ (result.0 ≡ status.Memory) }
 
     // A command that only prints leaves the image as it is. A crash at any moment of one that makes no image leaves a
-    // crash of the image at entry, or the table after the deletion, or what formatting leaves.
+    // crash of the image at entry, or the tree before or after a change of names, or what formatting leaves.
     ensures unchanged { changes (command_in (map string_bytes words.now)) ≡ false → D.tells → D.image result.1 ≡ D.image dev }
     ensures any_moment { makes_image (command_in (map string_bytes words.now)) ≡ false
         → LeavesOnly D.tick D.since dev result.1 (MayLeave random (command_in (map string_bytes words.now)) (D.image dev)) }
 {
-    match obey(alloc, words, &mut dev, out, random) {
+    let (ended, dev) = obey(alloc, words, dev, out, random);
+    match ended {
         Ok(()) => (Status::Ok, dev),
-        Err(refusal) => {
-            let status = refuse(err, refusal);
+        Err(cause) => {
+            let status = refuse(err, cause);
             (status, dev)
         }
     }
@@ -103,32 +110,32 @@ pub fn run<D: ZonedDevice, O: Sink, E: Sink>(
 fn obey<'a, D: ZonedDevice, O: Sink>(
     alloc: Global,
     words: &'a [String],
-    dev: &mut D,
+    dev: D,
     out: &mut O,
     random: u128,
-) -> Result<(), Refusal<'a>>
+) -> (Result<(), Cause<'a>>, D)
     ensures left { (c : line.Command) → command_in (map string_bytes words.now) ≡ Some c
-        → OnOk result (Leaves D.known D.geometry D.infos D.tells D.image (out.new ≡ out.old) random dev.old dev.new c) }
+        → OnOk result.0 (Leaves D.known D.geometry D.infos D.tells D.image (out.new ≡ out.old) random dev result.1 c) }
     ensures printed { (c : line.Command) → command_in (map string_bytes words.now) ≡ Some c
-        → OnOk result (D.tells → O.tells → IsPrinted (output_text c (D.image dev.old)) (O.written out.old) (O.written out.new)) }
+        → OnOk result.0 (D.tells → O.tells → IsPrinted (output_text c (D.image dev)) (O.written out.old) (O.written out.new)) }
     ensures allowed { (c : line.Command) → command_in (map string_bytes words.now) ≡ Some c
-        → OnOk result (D.tells → CanBeDone (D.absent dev.old) (D.image dev.old) c) }
-    ensures some { OnOk result (command_in (map string_bytes words.now) ≡ None → ⊥) }
-    ensures refused { IfErr result (HasReason (command_in (map string_bytes words.now))
-        (Rose (D.faults dev.old) (D.faults dev.new))
-        (IsCutShort (Rose (O.faults out.old) (O.faults out.new)) (Leaves D.known D.geometry D.infos D.tells D.image (out.new ≡ out.old) random dev.old dev.new)
-        (D.tells × O.tells) (O.written out.old) (O.written out.new) (D.image dev.old))
-        D.tells (D.absent dev.old) (D.image dev.old)) }
-    ensures words { command_in (map string_bytes words.now) ≡ None → IsErrOf result Refusal.Words }
-    ensures silent { IfErr result (λ refusal. IsSilent refusal (out.new ≡ out.old)) }
-    ensures unwritten { IfErr result (λ refusal. IsUnwritten refusal (D.tells → D.image dev.new ≡ D.image dev.old)) }
-    ensures unchanged { changes (command_in (map string_bytes words.now)) ≡ false → D.tells → D.image dev.new ≡ D.image dev.old }
+        → OnOk result.0 (D.tells → CanBeDone (D.absent dev) (D.image dev) c) }
+    ensures some { OnOk result.0 (command_in (map string_bytes words.now) ≡ None → ⊥) }
+    ensures refused { IfErr result.0 (HasReason (command_in (map string_bytes words.now))
+        (Rose (D.faults dev) (D.faults result.1))
+        (IsCutShort (Rose (O.faults out.old) (O.faults out.new)) (Leaves D.known D.geometry D.infos D.tells D.image (out.new ≡ out.old) random dev result.1)
+        (D.tells × O.tells) (O.written out.old) (O.written out.new) (D.image dev))
+        D.tells (D.absent dev) (D.image dev)) }
+    ensures words { command_in (map string_bytes words.now) ≡ None → IsErrOf result.0 Cause.Words }
+    ensures silent { IfErr result.0 (λ cause. IsSilent cause (out.new ≡ out.old)) }
+    ensures unwritten { IfErr result.0 (λ cause. IsUnwritten (command_in (map string_bytes words.now)) cause (D.tells → D.image result.1 ≡ D.image dev)) }
+    ensures unchanged { changes (command_in (map string_bytes words.now)) ≡ false → D.tells → D.image result.1 ≡ D.image dev }
     ensures any_moment { makes_image (command_in (map string_bytes words.now)) ≡ false
-        → LeavesOnly D.tick D.since dev.old dev.new (MayLeave random (command_in (map string_bytes words.now)) (D.image dev.old)) }
+        → LeavesOnly D.tick D.since dev result.1 (MayLeave random (command_in (map string_bytes words.now)) (D.image dev)) }
 {
     match built_command(alloc, words) {
         Ok(Some(command)) => perform(alloc, command, dev, out, random),
-        Ok(None) => Err(Refusal::Words),
-        Err(_) => Err(Refusal::NoMemory),
+        Ok(None) => (Err(Cause::Words), dev),
+        Err(_) => (Err(Cause::NoMemory), dev),
     }
 }

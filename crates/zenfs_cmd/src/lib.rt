@@ -1,31 +1,27 @@
 //! The utility `zenfs`: its words, and what each command does.
 #![tactic(auto)]
 
-mod bare;
-mod command;
-mod delete;
+mod causes;
+mod change;
 #[cfg(test)]
-mod delete_tests;
-mod durable;
+mod change_tests;
+mod command;
 mod info;
-pub mod laws;
+mod lines;
 mod list;
-mod log;
-mod log_table;
 mod making;
 #[cfg(test)]
 mod making_tests;
-mod opened;
+mod mounted;
+mod names;
 mod perform;
 mod refusal;
-mod repeats;
-mod small_table;
-mod table;
 #[cfg(test)]
 mod tests;
 mod words;
+mod writing;
 
 pub use command::run;
 pub use command_words::image_path;
-pub use fs_report::{MemSink, OutSink, Sink, SinkFault, Status};
-pub use refusal::{Refusal, refuse};
+pub use fs_report::{Cause, MemSink, OutSink, Sink, SinkFault, Status};
+pub use refusal::refuse;

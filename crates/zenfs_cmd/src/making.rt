@@ -1,5 +1,5 @@
 // The commands `mkimage` and `mkfs`.
-ghost use Rattle.std.specs.Prelude.{◌≡◌, ℕ, Some, IsTrue, OnOk, IfErr};
+ghost use Rattle.std.specs.Prelude.{◌≡◌, ℕ, Some, None, IsTrue, OnOk, IfErr};
 ghost use Rattle.zone_image.specs.Counts.{Rose};
 ghost use Rattle.zone_image.specs.Moments.{LeavesOnly};
 ghost use Rattle.log_model.specs.Format.{is_aux_path};
@@ -9,9 +9,8 @@ ghost use Rattle.zenfs_cmd.specs.Leaving.{Leaves, MayLeave};
 ghost use Rattle.zenfs_cmd.specs.Printing.{IsCutShort, IsPrinted, IsSilent, output_text};
 ghost use Rattle.zenfs_cmd.specs.Reasons.{CanBeDone, HasReason, IsUnwritten};
 
-use crate::refusal::Refusal;
 use crate::words::FsOptions;
-use fs_report::Sink;
+use fs_report::{Cause, Sink};
 use making_cmd::{MakeDeviceError, MakeFsError, Settings, make_device, make_fs};
 use std::alloc::Global;
 use superblock_core::AuxPath;
@@ -25,7 +24,7 @@ pub(crate) fn make_image<'a, D: ZonedDevice, O: Sink>(
     out: &mut O,
     geometry: &Geometry,
     force: bool,
-) -> Result<(), Refusal<'a>>
+) -> Result<(), Cause<'a>>
     ensures left { (at : Word) (random : ℕ) → OnOk result (Leaves D.known D.geometry D.infos D.tells D.image (out.new ≡ out.old) random dev.old dev.new (MakeImage at geometry.now force)) }
     ensures allowed { (at : Word) → OnOk result (D.tells → CanBeDone (D.absent dev.old) (D.image dev.old) (MakeImage at geometry.now force)) }
     ensures printed { (at : Word) → OnOk result (D.tells → O.tells → IsPrinted (output_text (MakeImage at geometry.now force) (D.image dev.old)) (O.written out.old) (O.written out.new)) }
@@ -34,16 +33,16 @@ pub(crate) fn make_image<'a, D: ZonedDevice, O: Sink>(
         (IsCutShort (Rose (O.faults out.old) (O.faults out.new)) (Leaves D.known D.geometry D.infos D.tells D.image (out.new ≡ out.old) random dev.old dev.new)
         (D.tells × O.tells) (O.written out.old) (O.written out.new) (D.image dev.old))
         D.tells (D.absent dev.old) (D.image dev.old)) }
-    ensures silent { IfErr result (λ refusal. IsSilent refusal (out.new ≡ out.old)) }
-    ensures unwritten { IfErr result (λ refusal. IsUnwritten refusal (D.tells → D.image dev.new ≡ D.image dev.old)) }
+    ensures silent { IfErr result (λ cause. IsSilent cause (out.new ≡ out.old)) }
+    ensures unwritten { IfErr result (λ cause. IsUnwritten None cause (D.tells → D.image dev.new ≡ D.image dev.old)) }
 {
     match make_device(alloc, dev, out, geometry, force) {
         Ok(()) => Ok(()),
-        Err(MakeDeviceError::DeviceFault) => Err(Refusal::DeviceFault),
-        Err(MakeDeviceError::OutputFault) => Err(Refusal::OutputFault),
-        Err(MakeDeviceError::NoMemory) => Err(Refusal::NoMemory),
-        Err(MakeDeviceError::ImageExists) => Err(Refusal::ImageExists),
-        Err(MakeDeviceError::BadGeometry) => Err(Refusal::BadGeometry),
+        Err(MakeDeviceError::DeviceFault) => Err(Cause::DeviceFault),
+        Err(MakeDeviceError::OutputFault) => Err(Cause::OutputFault),
+        Err(MakeDeviceError::NoMemory) => Err(Cause::NoMemory),
+        Err(MakeDeviceError::ImageExists) => Err(Cause::ImageExists),
+        Err(MakeDeviceError::BadGeometry) => Err(Cause::BadGeometry),
     }
 }
 
@@ -54,7 +53,7 @@ pub(crate) fn make_file_system<'a, D: ZonedDevice, O: Sink>(
     out: &mut O,
     options: &FsOptions<'_>,
     random: u128,
-) -> Result<(), Refusal<'a>>
+) -> Result<(), Cause<'a>>
     requires { IsTrue (is_aux_path options.now.aux_path.now) }
     ensures left { (at : Word) → OnOk result (Leaves D.known D.geometry D.infos D.tells D.image (out.new ≡ out.old) random dev.old dev.new
         (MakeFs at options.now.aux_path.now options.now.finish_threshold options.now.collect options.now.force)) }
@@ -68,19 +67,19 @@ pub(crate) fn make_file_system<'a, D: ZonedDevice, O: Sink>(
         (IsCutShort (Rose (O.faults out.old) (O.faults out.new)) (Leaves D.known D.geometry D.infos D.tells D.image (out.new ≡ out.old) random dev.old dev.new)
         (D.tells × O.tells) (O.written out.old) (O.written out.new) (D.image dev.old))
         D.tells (D.absent dev.old) (D.image dev.old)) }
-    ensures silent { IfErr result (λ refusal. IsSilent refusal (out.new ≡ out.old)) }
-    ensures unwritten { IfErr result (λ refusal. IsUnwritten refusal (D.tells → D.image dev.new ≡ D.image dev.old)) }
+    ensures silent { IfErr result (λ cause. IsSilent cause (out.new ≡ out.old)) }
+    ensures unwritten { IfErr result (λ cause. IsUnwritten None cause (D.tells → D.image dev.new ≡ D.image dev.old)) }
     ensures any_moment { (at : Word) → LeavesOnly D.tick D.since dev.old dev.new (MayLeave random
         (Some (MakeFs at options.now.aux_path.now options.now.finish_threshold options.now.collect options.now.force)) (D.image dev.old)) }
 {
     let settings = settings_of(options);
     match make_fs(alloc, dev, out, &settings, options.force, random) {
         Ok(()) => Ok(()),
-        Err(MakeFsError::DeviceFault) => Err(Refusal::DeviceFault),
-        Err(MakeFsError::OutputFault) => Err(Refusal::OutputFault),
-        Err(MakeFsError::NoMemory) => Err(Refusal::NoMemory),
-        Err(MakeFsError::NotAnImage) => Err(Refusal::NotAnImage),
-        Err(MakeFsError::FsExists { zone }) => Err(Refusal::FsExists { zone }),
+        Err(MakeFsError::DeviceFault) => Err(Cause::DeviceFault),
+        Err(MakeFsError::OutputFault) => Err(Cause::OutputFault),
+        Err(MakeFsError::NoMemory) => Err(Cause::NoMemory),
+        Err(MakeFsError::NotAnImage) => Err(Cause::NotAnImage),
+        Err(MakeFsError::FsExists { zone }) => Err(Cause::FsExists { zone }),
     }
 }
 

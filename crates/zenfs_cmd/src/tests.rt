@@ -29,9 +29,9 @@ const NOTHING: &[u8] = b"\x01\0\0\0\0";
 
 pub(crate) const LIST: &[&str] = &["list", "--image=i"];
 
-// A log of a superblock and this snapshot.
-fn log(rt: &impl Abort, alloc: Global, snapshot: &[u8]) -> Result<Vec<u8>, Fail> {
-    let superblock = Superblock {
+// The superblock of a log on a device of this shape.
+pub(crate) fn superblock() -> Result<Superblock, Fail> {
+    Ok(Superblock {
         id: 0,
         sequence: 1,
         flags: 0,
@@ -41,32 +41,49 @@ fn log(rt: &impl Abort, alloc: Global, snapshot: &[u8]) -> Result<Vec<u8>, Fail>
         finish_threshold: 0,
         aux_path: AuxPath::read("/aux").ok_or("no path")?,
         version_text: VersionText::read("profile-2").ok_or("no text")?,
-    };
-    let mut bytes = [0; 512];
-    superblock.encode(&mut bytes);
+    })
+}
+
+// A log of this superblock and this snapshot.
+pub(crate) fn log_of(
+    rt: &impl Abort,
+    alloc: Global,
+    superblock: &[u8],
+    snapshot: &[u8],
+) -> Result<Vec<u8>, Fail> {
+    assert!(rt; superblock.len() == 512);
     assert!(rt; !snapshot.is_empty() && snapshot.len() < 500);
-    let mut log = spell(alloc, &bytes, 512)?.items().to_vec(alloc)?;
+    let mut log = spell(alloc, superblock, 512)?.items().to_vec(alloc)?;
     log.extend_from_slice(spell(alloc, snapshot, 512)?.items())?;
     Ok(log)
 }
 
-// A device whose zone 0 has a superblock and this snapshot.
-pub(crate) fn device(rt: &impl Abort, alloc: Global, snapshot: &[u8]) -> Result<MemZones, Fail> {
-    let log = log(rt, alloc, snapshot)?;
-    assert!(rt; log.len() == 1536);
+// A device with these logs in its first zones, two at most.
+pub(crate) fn device_of(rt: &impl Abort, alloc: Global, logs: &[&[u8]]) -> Result<MemZones, Fail> {
     let mut dev = MemZones::new(alloc, SHAPE, Vec::new(alloc))?;
-    dev.put(0, &log, 3, false);
+    if logs.len() == 1 {
+        let log = logs[0];
+        assert!(rt; log.len() == 1536);
+        dev.put(0, log, 3, false);
+    } else if logs.len() == 2 {
+        let log = logs[0];
+        assert!(rt; log.len() == 1536);
+        let second = logs[1];
+        assert!(rt; second.len() == 1536);
+        dev.put(0, log, 3, false);
+        dev.put(1, second, 3, false);
+    }
     Ok(dev)
 }
 
-// The same with a block in zone 1.
-fn crowded_device(rt: &impl Abort, alloc: Global) -> Result<MemZones, Fail> {
-    let log = log(rt, alloc, A_TXT)?;
-    assert!(rt; log.len() == 1536);
-    let mut dev = MemZones::new(alloc, SHAPE, Vec::new(alloc))?;
-    dev.put(1, &[0; 512], 1, false);
-    dev.put(0, &log, 3, false);
-    Ok(dev)
+// A device whose zone 0 has a superblock and this snapshot.
+pub(crate) fn device(rt: &impl Abort, alloc: Global, snapshot: &[u8]) -> Result<MemZones, Fail> {
+    let mut bytes = [0; 512];
+    let stated = superblock()?;
+    assert!(rt; stated.flags <= 1);
+    stated.encode(&mut bytes);
+    let log = log_of(rt, alloc, &bytes, snapshot)?;
+    device_of(rt, alloc, &[log.as_slice()])
 }
 
 // How the program ends with these words over a device, and what it says, `room` bytes at most.
@@ -153,11 +170,8 @@ fn bad_words_are_refused(rt: HostRuntime) -> Result<(), Fail> {
 }
 
 #[test]
-fn what_is_no_such_image_is_refused(rt: HostRuntime) -> Result<(), Fail> {
+fn what_is_no_image_is_refused(rt: HostRuntime) -> Result<(), Fail> {
     let alloc = rt.alloc();
-    let (status, _, err) = said(alloc, LIST, crowded_device(&rt, alloc)?, 100)?;
-    assert_eq!(rt; status, Status::Refused);
-    assert_eq!(rt; err.as_slice(), b"zenfs: image form not built\n".as_slice());
     let (status, _, err) = said(alloc, LIST, MemZones::blank(alloc, Vec::new(alloc)), 100)?;
     assert_eq!(rt; status, Status::Refused);
     assert_eq!(rt; err.as_slice(), b"zenfs: not a zoned image\n".as_slice());

@@ -1,7 +1,9 @@
 // The command that some words are.
-ghost use Rattle.std.specs.Prelude.{◌≡◌, None, is_some, map, string_bytes, option_map, IfOk, IfSome, IsErr};
+ghost use Rattle.std.specs.Prelude.{◌≡◌, ⊤, Some, None, IsSomeAnd, is_some, map, string_bytes, option_map, IfOk, IfSome, IsErr};
 ghost use Rattle.command_words.specs.Commands.{command_meant};
-ghost use Rattle.zenfs_cmd.specs.Words.{HasAuxPath, command_in, if_built, meaning_of};
+ghost use Rattle.command_model.specs.Options.{Word};
+ghost use Rattle.zenfs_cmd.specs.Plans.{source_of, target_of};
+ghost use Rattle.zenfs_cmd.specs.Words.{HasAuxPath, command_asked, command_in, if_built, meaning_of};
 
 use clap_words::read;
 use command_words::Command;
@@ -31,11 +33,22 @@ pub(crate) enum Built<'a> {
     Info {
         image: &'a str,
     },
-    /// Takes a name out of the image.
-    Delete {
+    /// Changes names.
+    Change {
         image: &'a str,
-        path: &'a str,
+        change: Asked<'a>,
     },
+}
+
+/// A change of names, as it is asked for; whether they are names is asked later.
+#[derive(Clone, Copy, Debug, PartialEq, Eq)]
+pub(crate) enum Asked<'a> {
+    /// Gives a file one more name.
+    Link { source: &'a str, target: &'a str },
+    /// Gives a file another name in the place of this one.
+    Rename { source: &'a str, target: &'a str },
+    /// Takes a name away.
+    Delete { path: &'a str },
 }
 
 /// How a new file system is made.
@@ -46,6 +59,31 @@ pub(crate) struct FsOptions<'a> {
     pub(crate) collect: bool,
     /// What is there is replaced.
     pub(crate) force: bool,
+}
+
+impl<'a> Asked<'a> {
+    /// The name that is looked up.
+    pub(crate) fn source(self) -> &'a str
+        ensures { (at : Word) → source_of (command_asked at self.entry) ≡ Some result.now }
+    {
+        match self {
+            Asked::Link { source, .. } => source,
+            Asked::Rename { source, .. } => source,
+            Asked::Delete { path } => path,
+        }
+    }
+
+    /// The name that is given; a deletion gives none.
+    pub(crate) fn target(self) -> &'a str
+        requires { (at : Word) → IsSomeAnd (target_of (command_asked at self)) (λ _. ⊤) }
+        ensures { (at : Word) → target_of (command_asked at self.entry) ≡ Some result.now }
+    {
+        match self {
+            Asked::Link { target, .. } => target,
+            Asked::Rename { target, .. } => target,
+            Asked::Delete { .. } => unreachable!(),
+        }
+    }
 }
 
 // A command, if it is built.
@@ -80,13 +118,30 @@ fn if_built(command: Command<'_>) -> Option<Built<'_>>
         }),
         Command::ListFiles { image, prefix } => Some(Built::List { image, prefix }),
         Command::ShowInfo { image } => Some(Built::Info { image }),
-        Command::DeleteFile { image, path } => Some(Built::Delete { image, path }),
+        Command::LinkFile {
+            image,
+            source,
+            target,
+        } => Some(Built::Change {
+            image,
+            change: Asked::Link { source, target },
+        }),
+        Command::RenameFile {
+            image,
+            source,
+            target,
+        } => Some(Built::Change {
+            image,
+            change: Asked::Rename { source, target },
+        }),
+        Command::DeleteFile { image, path } => Some(Built::Change {
+            image,
+            change: Asked::Delete { path },
+        }),
         Command::ShowSpace { .. } => None,
         Command::Dump { .. } => None,
         Command::Backup { .. } => None,
         Command::Restore { .. } => None,
-        Command::LinkFile { .. } => None,
-        Command::RenameFile { .. } => None,
     }
 }
 
