@@ -203,5 +203,7 @@ impl<F: ByteFile> ZonedDevice for ImageZones<F> {
 
     ghost moments = { record { earlier = λ _ _ _ _ _ none. absurd none; since_now = λ _ _ none. absurd none; since_told = λ _ _ _ none. absurd none } };
 
+    ghost valid_since = { λ _ _ _ _ none. absurd none };
+
     ghost since_all = { λ _ _ untold _ _. absurd untold };
 }

@@ -1,7 +1,8 @@
 // A device is formatted: an empty file system is made on it.
-ghost use Rattle.std.specs.Prelude.{◌≡◌, ◌⊎◌, ◌*◌, ◌<◌, ◌≤◌, IsTrue, length, vec_capacity, IfOk, OnOk, IsErr, IsErrOf, []};
+ghost use Rattle.std.specs.Prelude.{◌≡◌, ℕ, ◌⊎◌, ◌*◌, ◌<◌, ◌≤◌, IsTrue, length, vec_capacity, IfOk, OnOk, IsErr, IsErrOf, []};
 ghost use Rattle.zone_image.specs.Changes.{blank, synced};
-ghost use Rattle.zone_image.specs.Infos.{infos_blank, infos_of};
+ghost use Rattle.zone_image.specs.Image.{Image};
+ghost use Rattle.zone_image.specs.Infos.{infos_blank, infos_of, IsValidImage};
 ghost use Rattle.superblock_core.specs.Superblock.{fits};
 ghost use Rattle.log_model.specs.LogScan.{blocks_of, record_blocks};
 ghost use Rattle.log_model.specs.Format.{formatted_image, reset_order};
@@ -189,6 +190,9 @@ pub fn format<D: ZonedDevice>(
 
     ensures device { ChangesDevice D.known D.geometry D.tells D.image D.tick D.since D.faults D.failed_changes dev.old dev.new (IsErrOf result LogError.DevFault)
         (LeftByFormat geometry.now superblock.now (D.image dev.old)) }
+
+    // No crash finds more zones active than the limit.
+    ensures limits { (t : ℕ) (j : Image) → D.since dev.new t j → IsValidImage j }
 {
     match reset_order(alloc, dev, geometry) {
         Ok(order) => format_in_order(alloc, dev, geometry, superblock, order),

@@ -1,6 +1,7 @@
 // A log is rolled: its table goes into a new log in the next metadata zone.
-ghost use Rattle.std.specs.Prelude.{◌≡◌, ◌⊎◌, ◌+◌, ◌*◌, ◌^◌, ◌<◌, ◌≤◌, ◌++◌, Ok, codes, drop, length, vec_capacity, IfErr, IfOk, OnOk, IsErrOf};
-ghost use Rattle.zone_image.specs.Infos.{active_zones};
+ghost use Rattle.std.specs.Prelude.{◌≡◌, ℕ, ◌⊎◌, ◌+◌, ◌*◌, ◌^◌, ◌<◌, ◌≤◌, ◌++◌, Ok, codes, drop, length, vec_capacity, IfErr, IfOk, OnOk, IsErrOf};
+ghost use Rattle.zone_image.specs.Image.{Image};
+ghost use Rattle.zone_image.specs.Infos.{active_zones, IsValidImage};
 ghost use Rattle.superblock_core.specs.Superblock.{superblock_bytes};
 ghost use Rattle.log_model.specs.LogScan.{blocks_of, record_blocks};
 ghost use Rattle.log_model.specs.LogSelection.{selected_log};
@@ -174,6 +175,7 @@ pub fn roll_with<D: ZonedDevice>(
     ensures device { ChangesDevice D.known D.geometry D.tells D.image D.tick D.since D.faults D.failed_changes dev.old dev.new (IsErrOf result RollError.DevFault)
         (LeftByRoll old.now snapshot.now (D.image dev.old)) }
     ensures data_kept { KeepsData D.infos D.tells D.image dev.old dev.new }
+    ensures limits { (t : ℕ) (j : Image) → D.since dev.new t j → IsValidImage j }
     ensures same_buffer { buffer.new ≡ buffer.old }
 {
     let _greatest = old.greatest;
@@ -260,6 +262,9 @@ pub fn roll<D: ZonedDevice>(
     ensures device { ChangesDevice D.known D.geometry D.tells D.image D.tick D.since D.faults D.failed_changes dev.old dev.new (IsErrOf result RollError.DevFault)
         (LeftByRoll old.now snapshot.now (D.image dev.old)) }
     ensures data_kept { KeepsData D.infos D.tells D.image dev.old dev.new }
+
+    // No crash finds more zones active than the limit.
+    ensures limits { (t : ℕ) (j : Image) → D.since dev.new t j → IsValidImage j }
 {
     match roll_refusal(geometry, old, snapshot.len() as u64) {
         Ok(()) => roll_taking(alloc, dev, geometry, old, snapshot),

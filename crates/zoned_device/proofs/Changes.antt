@@ -1,8 +1,8 @@
 -- What a changing call of a device in memory passes.
-use Rattle.std.proofs.Common.{◌≡◌, inl, inr, ℕ, zero, suc, ◌+◌, ◌<◌, ◌≤◌, false, List, [], ◌∷◌, ◌++◌, length, take, None, Some, refl, sym, ◌∙◌, ap, subst, arith, length-take}
+use Rattle.std.proofs.Common.{◌≡◌, inl, inr, ⊎_elim, ℕ, zero, suc, ◌+◌, ◌<◌, ◌≤◌, false, List, [], ◌∷◌, ◌++◌, length, take, None, Some, refl, sym, ◌∙◌, ap, subst, arith, length-take}
 use Rattle.std.specs.List.{All}
 use Rattle.std.specs.Prelude.{◌==◌, ◌||◌, if◌then◌else◌}
-use Rattle.std.proofs.lemmas.Bool.{ne_eqb}
+use Rattle.std.proofs.lemmas.Bool.{ne_eqb, cases_eq}
 use Rattle.std.proofs.lemmas.List.{append-nil, take_all, take-take, length-map}
 use Rattle.std.proofs.lemmas.List.Elements.{All-take}
 use Rattle.zone_image.specs.Image.{Zone, Image, IsCrash, zone_in, zone_at}
@@ -10,7 +10,7 @@ use Rattle.zone_image.specs.Changes.{change_at, zone_appended, appended}
 use Rattle.zone_image.specs.Infos.{info_of, infos_of, info_at, active_zones, IsValidImage}
 use Rattle.zone_image.specs.Moments.{PassedByAppend}
 use Rattle.zone_image.proofs.InfoLaws.{info_at_is, valid_appended, valid_finished, valid_emptied, valid_synced}
-use Rattle.zone_image.proofs.CrashLaws.{crash_before_sync}
+use Rattle.zone_image.proofs.CrashLaws.{crash_before_sync, valid_crash}
 use Rattle.zoned_device.specs.Content.{Change, Append, Finish, Reset, Sync, after, Passes, part_of}
 
 -- the conditions of an append of blocks
@@ -90,3 +90,16 @@ passes_part n i j zone added passed = record {
 -- what is done of an append that fails after some blocks
 pub part_of-append : (n zone : ℕ) (added : List (List ℕ)) → (n ≡ 0 → ⊥) → part_of (Some n) (Append zone added) ≡ Some (Append zone (take n added))
 part_of-append n zone added some = ap (λ b. if b then None else Some (Append zone (take n added))) (ne_eqb n 0 some)
+
+-- whatever a crash leaves within a change is an image that a device may have
+pub passes_valid : (ch : Change) (i j : Image) → CanDo ch i → IsValidImage i → Passes ch i j → IsValidImage j
+passes_valid (Append zone added) i j can is passed = ⊎_elim
+    (λ none. valid_crash i j is (subst (λ k. IsCrash k j) (ap (λ n. appended i zone (take n added)) none ∙ append_nothing i zone added can is) passed.crash))
+    (λ some. valid_crash (appended i zone (take passed.count added)) j
+    (valid_after (Append zone (take passed.count added)) i (can_append_part passed.count i zone added some can) is) passed.crash)
+    (cases_eq passed.count 0)
+passes_valid (Finish zone) i j can is (inl crash) = valid_crash i j is crash
+passes_valid (Finish zone) i j can is (inr crash) = valid_crash (after (Finish zone) i) j (valid_after (Finish zone) i can is) crash
+passes_valid (Reset zone) i j can is (inl crash) = valid_crash i j is crash
+passes_valid (Reset zone) i j can is (inr crash) = valid_crash (after (Reset zone) i) j (valid_after (Reset zone) i can is) crash
+passes_valid Sync i j can is crash = valid_crash i j is crash

@@ -4,14 +4,14 @@ use Rattle.std.specs.Prelude.{is_ok, IsErr, OnOk, OnErr}
 use Rattle.zone_image.specs.Counts.{next_tick}
 use Rattle.zone_image.specs.Image.{Image, IsCrash}
 use Rattle.zone_image.specs.Changes.{finished, emptied}
-use Rattle.zone_image.specs.Infos.{infos_of, infos_finished, infos_emptied, IsValidImage, Shows}
+use Rattle.zone_image.specs.Infos.{infos_of, infos_finished, infos_emptied, Shows}
 use Rattle.zone_image.specs.Moments.{LeavesOnly}
 use Rattle.zone_image.proofs.InfoLaws.{infos-finished, infos-emptied, infos-synced}
 use Rattle.zoned_device.specs.CallState.{CallState, IsWithinLimits, fault_of}
-use Rattle.zoned_device.specs.Content.{Change, Finish, Reset, Sync, Content, after, Passes, AllBefore, LeftBy, with_change, content_after, is_done, calls_after}
-use Rattle.zoned_device.specs.MemState.{MemState, image_of, tick_of, since_of, IsKnown, BeganBefore}
+use Rattle.zoned_device.specs.Content.{Change, Finish, Reset, Sync, Content, IsValidContent, after, Passes, AllBefore, LeftBy, with_change, content_after, is_done, calls_after}
+use Rattle.zoned_device.specs.MemState.{MemState, image_of, tick_of, since_of, IsKnown, HoldsMoments}
 use Rattle.zoned_device.proofs.Changes.{CanDo}
-use Rattle.zoned_device.proofs.MemCalls.{IsFront, part_is, outcome, valid, began, leaves, same_geometry, done_whole, rises}
+use Rattle.zoned_device.proofs.MemCalls.{IsFront, part_is, outcome, stays_valid, began, leaves, same_geometry, done_whole, rises}
 use Rattle.zoned_device.proofs.Leaves.{push_last, tick_rises, leaves_same, began_later}
 
 pub on_ok : {T E : Type 0} {P : Type 0} (r : Result T E) (done : Bool) → is_ok r ≡ done → (done ≡ true → P) → OnOk r P
@@ -25,7 +25,7 @@ on_err (Err e) p = p
 module _ (old : MemState) (c : Content) (s : CallState) (ch : Change) (is : ◌≡◌ {A = MemState} (record { content = Some c; calls = s }) old) (known : IsKnown old) (can : CanDo ch (image_of old))
     (all : AllBefore s.tick c.events) (within : IsWithinLimits s)
     (new : Content) (calls : CallState) (content : new ≡ content_after s ch c) (counts : calls ≡ calls_after s ch c) where
-  known_c : IsValidImage c.standing
+  known_c : IsValidContent c
   known_c = subst IsKnown (sym is) known
 
   can_c : CanDo ch c.standing
@@ -34,8 +34,8 @@ module _ (old : MemState) (c : Content) (s : CallState) (ch : Change) (is : ◌�
   image_is : c.standing ≡ image_of old
   image_is = ap image_of is
 
-  pub call_valid : IsValidImage new.standing
-  call_valid = subst (λ (e : Content). IsValidImage e.standing) (sym content) (valid c s ch known_c can_c all within.tick)
+  pub call_valid : IsValidContent new
+  call_valid = subst IsValidContent (sym content) (stays_valid c s ch known_c can_c all within.tick)
 
   pub call_began : AllBefore calls.tick new.events
   call_began =
@@ -105,11 +105,11 @@ sync_infos i j (inr done) = ⊎_elim
     done.1
 
 -- a call that changes no image
-module _ (old : MemState) (o : Option Content) (s calls : CallState) (is : ◌≡◌ {A = MemState} (record { content = o; calls = s }) old) (all : BeganBefore s.tick o) (within : IsWithinLimits s) (ticks : calls.tick ≡ next_tick s.tick) where
+module _ (old : MemState) (o : Option Content) (s calls : CallState) (is : ◌≡◌ {A = MemState} (record { content = o; calls = s }) old) (all : HoldsMoments s.tick o) (within : IsWithinLimits s) (ticks : calls.tick ≡ next_tick s.tick) where
   quiet_later : s.tick ≤ calls.tick
   quiet_later = omega (arith, ticks, tick_rises s.tick within.tick)
 
-  pub quiet_began : BeganBefore calls.tick o
+  pub quiet_began : HoldsMoments calls.tick o
   quiet_began = began_later s.tick calls.tick o quiet_later all
 
   pub quiet_leaves : LeavesOnly tick_of since_of old (record { content = o; calls = calls }) (IsCrash (image_of old))

@@ -5,8 +5,8 @@ use Rattle.zone_image.specs.Image.{Image, IsCrash}
 use Rattle.zone_image.specs.Infos.{IsValidImage}
 use Rattle.zone_image.specs.Moments.{LeavesOnly}
 use Rattle.zoned_device.specs.CallState.{CallState}
-use Rattle.zoned_device.specs.Content.{Change, Event, Content, Passes, LeftBy, AllBefore, with_change}
-use Rattle.zoned_device.specs.MemState.{tick_of, since_of, LeftOf, BeganBefore, standing_in}
+use Rattle.zoned_device.specs.Content.{Change, Event, Content, Passes, LeftBy, AllBefore, AreValidMoments, with_change}
+use Rattle.zoned_device.specs.MemState.{tick_of, since_of, LeftOf, HoldsMoments, standing_in}
 use Rattle.zoned_device.specs.MemLaws.{earlier_of}
 use Rattle.zoned_device.proofs.Changes.{CanDo, passes_before, passes_after}
 
@@ -51,9 +51,13 @@ pub before_push : (now : ℕ) (es : List Event) (e : Event) → AllBefore now es
 before_push now [] e all here = (here, tt)
 before_push now (x ∷ es) e all here = (all.0, before_push now es e all.1 here)
 
-pub began_later : (now later : ℕ) (o : Option Content) → now ≤ later → BeganBefore now o → BeganBefore later o
+pub valid_push : (es : List Event) (e : Event) → AreValidMoments es → ((j : Image) → Passes e.change e.image j → IsValidImage j) → AreValidMoments (es ++ e ∷ [])
+valid_push [] e all here = (here, tt)
+valid_push (x ∷ es) e all here = (all.0, valid_push es e all.1 here)
+
+pub began_later : (now later : ℕ) (o : Option Content) → now ≤ later → HoldsMoments now o → HoldsMoments later o
 began_later now later None le all = tt
-began_later now later (Some c) le all = before_later now later c.events le all
+began_later now later (Some c) le all = (before_later now later c.events le all.0, all.1)
 
 pub tick_rises : (t : ℕ) → t ≤ last_tick → t ≤ next_tick t
 tick_rises t le = omega arith
@@ -64,17 +68,17 @@ unchanged_left None t now later j le none = none
 unchanged_left (Some c) t now later j le (inl crash) = inl crash
 unchanged_left (Some c) t now later j le (inr left) = inr (longer c.events t now later j le left)
 
-unchanged_before : (c : Option Content) (t now later : ℕ) (j : Image) → BeganBefore now c → LeftOf c later t j → LeftOf c now t j
+unchanged_before : (c : Option Content) (t now later : ℕ) (j : Image) → HoldsMoments now c → LeftOf c later t j → LeftOf c now t j
 unchanged_before None t now later j all none = none
 unchanged_before (Some c) t now later j all (inl crash) = inl crash
-unchanged_before (Some c) t now later j all (inr left) = inr (sooner c.events t now later j all left)
+unchanged_before (Some c) t now later j all (inr left) = inr (sooner c.events t now later j all.0 left)
 
-unchanged_each : (c : Option Content) (now later : ℕ) (j : Image) → BeganBefore now c → LeftOf c later now j → IsCrash (standing_in c) j
+unchanged_each : (c : Option Content) (now later : ℕ) (j : Image) → HoldsMoments now c → LeftOf c later now j → IsCrash (standing_in c) j
 unchanged_each None now later j all none = absurd none
 unchanged_each (Some c) now later j all (inl crash) = crash
-unchanged_each (Some c) now later j all (inr left) = absurd (none_since c.events now later j all left)
+unchanged_each (Some c) now later j all (inr left) = absurd (none_since c.events now later j all.0 left)
 
-pub leaves_same : (c : Option Content) (old new : CallState) → old.tick ≤ new.tick → BeganBefore old.tick c
+pub leaves_same : (c : Option Content) (old new : CallState) → old.tick ≤ new.tick → HoldsMoments old.tick c
     → LeavesOnly tick_of since_of (record { content = c; calls = old }) (record { content = c; calls = new }) (IsCrash (standing_in c))
 leaves_same c old new later all = record {
   later = later;

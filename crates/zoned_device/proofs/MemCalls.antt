@@ -7,11 +7,11 @@ use Rattle.zone_image.specs.Image.{Image}
 use Rattle.zone_image.specs.Infos.{IsValidImage}
 use Rattle.zone_image.specs.Moments.{LeavesOnly}
 use Rattle.zoned_device.specs.CallState.{CallState, IsWithinLimits, fault_of, begun, change_failed, is_used_up, listed_part}
-use Rattle.zoned_device.specs.Content.{Change, Append, Finish, Reset, Sync, Content, Passes, AllBefore, has_room, with_change, part_of, with_part, content_after, is_done, calls_after}
+use Rattle.zoned_device.specs.Content.{Change, Append, Finish, Reset, Sync, Content, IsValidContent, Passes, AllBefore, has_room, with_change, part_of, with_part, content_after, is_done, calls_after}
 use Rattle.zoned_device.specs.MemState.{MemState, tick_of, since_of}
-use Rattle.zoned_device.proofs.Changes.{CanDo, CanAppend, valid_after, passes_before, can_append_part, passes_part, part_of-append}
+use Rattle.zoned_device.proofs.Changes.{CanDo, CanAppend, valid_after, passes_before, passes_valid, can_append_part, passes_part, part_of-append}
 use Rattle.zoned_device.proofs.Records.{geometry-after}
-use Rattle.zoned_device.proofs.Leaves.{leaves_same, leaves_change, before_later, before_push, tick_rises}
+use Rattle.zoned_device.proofs.Leaves.{leaves_same, leaves_change, before_later, before_push, valid_push, tick_rises}
 
 -- what is done is the whole change, or the first blocks of an append
 pub record IsFront (ch d : Change) : Type 0 where
@@ -100,7 +100,7 @@ module _ (c : Content) (s : CallState) (ch : Change) where
           (cases_Bool (has_room c d))
 
 -- with the conditions of the call, on a device that is there
-module _ (c : Content) (s : CallState) (ch : Change) (is : IsValidImage c.standing) (can : CanDo ch c.standing) (all : AllBefore s.tick c.events) (time : s.tick ≤ last_tick) where
+module _ (c : Content) (s : CallState) (ch : Change) (valid : IsValidContent c) (can : CanDo ch c.standing) (all : AllBefore s.tick c.events) (time : s.tick ≤ last_tick) where
   can_part : (d : Change) → part_of (fault_of s) ch ≡ Some d → CanDo d c.standing
   can_part d done = part_can c.standing ch d (part_is (fault_of s) ch d done) can
 
@@ -111,10 +111,16 @@ module _ (c : Content) (s : CallState) (ch : Change) (is : IsValidImage c.standi
   later : s.tick ≤ (calls_after s ch c).tick
   later = omega (arith, ticks c s ch, tick_rises s.tick time)
 
-  pub valid : IsValidImage (content_after s ch c).standing
-  valid = ⊎_elim
-      (λ same. subst (λ (e : Content). IsValidImage e.standing) (sym same) is)
-      (λ done. subst (λ (e : Content). IsValidImage e.standing) (sym done.2) (valid_after done.0 c.standing (can_part done.0 done.1) is))
+  is : IsValidImage c.standing
+  is = valid.standing
+
+  pub stays_valid : IsValidContent (content_after s ch c)
+  stays_valid = ⊎_elim
+      (λ same. subst IsValidContent (sym same) valid)
+      (λ done. subst IsValidContent (sym done.2) (record {
+        standing = valid_after done.0 c.standing (can_part done.0 done.1) is;
+        moments = valid_push c.events (record { tick = s.tick; image = c.standing; change = done.0 }) valid.moments (λ j passed. passes_valid done.0 c.standing j (can_part done.0 done.1) is passed);
+      }))
       (outcome c s ch)
 
   pub same_geometry : (content_after s ch c).standing.geometry ≡ c.standing.geometry
@@ -133,7 +139,7 @@ module _ (c : Content) (s : CallState) (ch : Change) (is : IsValidImage c.standi
   pub leaves : LeavesOnly tick_of since_of (record { content = Some c; calls = s }) (record { content = Some (content_after s ch c); calls = calls_after s ch c }) (Passes ch c.standing)
   leaves = ⊎_elim
       (λ same. subst (λ (e : Content). LeavesOnly tick_of since_of (record { content = Some c; calls = s }) (record { content = Some e; calls = calls_after s ch c }) (Passes ch c.standing)) (sym same)
-      (weakened (leaves_same (Some c) s (calls_after s ch c) later all) (λ j crash. passes_before ch c.standing j can is crash)))
+      (weakened (leaves_same (Some c) s (calls_after s ch c) later (all, valid.moments)) (λ j crash. passes_before ch c.standing j can is crash)))
       (λ done. subst (λ (e : Content). LeavesOnly tick_of since_of (record { content = Some c; calls = s }) (record { content = Some e; calls = calls_after s ch c }) (Passes ch c.standing)) (sym done.2)
       (weakened (leaves_change c done.0 s (calls_after s ch c) (rises done.0 done.1) all is (can_part done.0 done.1)) (λ j passed. part_passes c.standing j ch done.0 (part_is (fault_of s) ch done.0 done.1) passed)))
       (outcome c s ch)

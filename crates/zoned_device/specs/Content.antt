@@ -4,6 +4,7 @@ use Rattle.zone_image.specs.declared.Geometry.{Geometry}
 use Rattle.zone_image.specs.Address.{device_bytes}
 use Rattle.zone_image.specs.Image.{Image, IsCrash}
 use Rattle.zone_image.specs.Changes.{appended, finished, emptied, synced}
+use Rattle.zone_image.specs.Infos.{IsValidImage}
 use Rattle.zone_image.specs.Moments.{PassedByAppend, PassedByFinish, PassedByReset}
 use Rattle.zoned_device.specs.CallState.{CallState, fault_of, begun, change_failed}
 
@@ -81,6 +82,16 @@ with_change tick ch c = record {
 abbrev pub LeftBy : List Event → ℕ → ℕ → Image → Type 0
 LeftBy [] since now j = ⊥
 LeftBy (e ∷ es) since now j = ((since ≤ e.tick) × (e.tick < now) × Passes e.change e.image j) ⊎ LeftBy es since now j
+
+-- whatever a crash leaves within the changes is an image that a device may have
+abbrev pub AreValidMoments : List Event → Type 0
+AreValidMoments [] = Unit {0}
+AreValidMoments (e ∷ es) = ((j : Image) → Passes e.change e.image j → IsValidImage j) × AreValidMoments es
+
+-- what stands is an image that a device may have, and so is whatever a crash left before
+pub record IsValidContent (c : Content) : Type 0 where
+  pub standing : IsValidImage c.standing
+  pub moments : AreValidMoments c.events
 
 -- all changes began before this tick
 abbrev pub AllBefore : ℕ → List Event → Type 0

@@ -3,9 +3,10 @@ use Rattle.std.specs.Prelude.{ℕ, ◌≤◌, List, [], ◌∷◌, Option, None,
 use Rattle.std.proofs.Common.{inl, inr}
 use Rattle.std.proofs.Math.Nat.{le_trans, lt_irrefl, lt_of_le_of_lt}
 use Rattle.zone_image.specs.Image.{Image, IsCrash}
-use Rattle.zone_image.specs.Infos.{infos_of, IsPossible, IsImage}
+use Rattle.zone_image.specs.Infos.{infos_of, IsPossible, IsImage, IsValidImage}
 use Rattle.zone_image.specs.Moments.{KeepsMoments}
-use Rattle.zoned_device.specs.Content.{Event, Content, LeftBy}
+use Rattle.zone_image.proofs.CrashLaws.{valid_crash}
+use Rattle.zoned_device.specs.Content.{Event, Content, LeftBy, AreValidMoments}
 use Rattle.zoned_device.specs.MemState.{MemState, standing_in, image_of, geometry_of, infos_in, tick_of, IsThere, IsNone, IsKnown, IsAbsent, LeftOf, since_of}
 
 left_earlier : (es : List Event) (now t u : ℕ) (j : Image) → t ≤ u → LeftBy es u now j → LeftBy es t now j
@@ -37,14 +38,14 @@ mem_moments = record {
 
 possible_in : (c : Option Content) → IsThere c → IsPossible (standing_in c).geometry (infos_of (standing_in c))
 possible_in None none = absurd none
-possible_in (Some c) is = is.possible
+possible_in (Some c) is = is.standing.possible
 
 pub mem_possible : (s : MemState) → IsKnown s → IsPossible (geometry_of s) (infos_in s)
 mem_possible s is = possible_in s.content is
 
 told_in : (c : Option Content) → IsThere c → IsImage (standing_in c).geometry (infos_of (standing_in c)) (standing_in c)
 told_in None none = absurd none
-told_in (Some c) is = record { shape = refl; told = refl; zones = is.zones }
+told_in (Some c) is = record { shape = refl; told = refl; zones = is.standing.zones }
 
 pub mem_told : (s : MemState) → IsKnown s → IsImage (geometry_of s) (infos_in s) (image_of s)
 mem_told s is = told_in s.content is
@@ -62,3 +63,16 @@ all_in (Some c) now j is crash = inl crash
 
 pub mem_since_all : (s : MemState) (j : Image) → IsKnown s → IsCrash (image_of s) j → since_of s (tick_of s) j
 mem_since_all s j is crash = all_in s.content (tick_of s) j is crash
+
+valid_left : (es : List Event) (now t : ℕ) (j : Image) → AreValidMoments es → LeftBy es t now j → IsValidImage j
+valid_left [] now t j all none = absurd none
+valid_left (e ∷ es) now t j all (inl here) = all.0 j here.2
+valid_left (e ∷ es) now t j all (inr there) = valid_left es now t j all.1 there
+
+valid_in : (c : Option Content) (now t : ℕ) (j : Image) → IsThere c → LeftOf c now t j → IsValidImage j
+valid_in None now t j none left = absurd none
+valid_in (Some c) now t j is (inl crash) = valid_crash c.standing j is.standing crash
+valid_in (Some c) now t j is (inr left) = valid_left c.events now t j is.moments left
+
+pub mem_valid_since : (s : MemState) (t : ℕ) (j : Image) → IsKnown s → since_of s t j → IsValidImage j
+mem_valid_since s t j is left = valid_in s.content (tick_of s) t j is left

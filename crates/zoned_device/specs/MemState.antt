@@ -3,9 +3,9 @@ use Rattle.std.specs.Prelude.{◌≡◌, ◌&&◌, ◌⊎◌, ℕ, List, [], Boo
 use Rattle.zone_image.specs.declared.Geometry.{Geometry}
 use Rattle.zone_image.specs.declared.ZoneInfo.{ZoneInfo}
 use Rattle.zone_image.specs.Image.{Image, IsCrash}
-use Rattle.zone_image.specs.Infos.{infos_of, IsValidImage}
+use Rattle.zone_image.specs.Infos.{infos_of}
 use Rattle.zoned_device.specs.CallState.{CallState, fault_of, begun, faulted}
-use Rattle.zoned_device.specs.Content.{Content, LeftBy, AllBefore, room_for, begun_with}
+use Rattle.zoned_device.specs.Content.{Content, IsValidContent, LeftBy, AllBefore, AreValidMoments, room_for, begun_with}
 
 -- the image with its record, none until one is made, and the counts of the calls
 pub record MemState : Type 0 where
@@ -38,7 +38,7 @@ tick_of s = s.calls.tick
 
 abbrev pub IsThere : Option Content → Type 0
 IsThere None = ⊥
-IsThere (Some c) = IsValidImage c.standing
+IsThere (Some c) = IsValidContent c
 
 -- an image is there
 abbrev pub IsKnown : MemState → Type 0
@@ -60,9 +60,10 @@ LeftOf (Some c) now t j = IsCrash c.standing j ⊎ LeftBy c.events t now j
 abbrev pub since_of : MemState → ℕ → Image → Type 0
 since_of s t j = LeftOf s.content (tick_of s) t j
 
-abbrev pub BeganBefore : ℕ → Option Content → Type 0
-BeganBefore now None = Unit {0}
-BeganBefore now (Some c) = AllBefore now c.events
+-- the kept changes began before this tick, and whatever a crash left within them is an image that a device may have
+abbrev pub HoldsMoments : ℕ → Option Content → Type 0
+HoldsMoments now None = Unit {0}
+HoldsMoments now (Some c) = AllBefore now c.events × AreValidMoments c.events
 
 abbrev pub room_in : Option Content → ℕ → Bool
 room_in None bytes = false

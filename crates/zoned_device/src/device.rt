@@ -4,7 +4,7 @@ ghost use Rattle.zone_image.specs.declared.Geometry.{Geometry};
 ghost use Rattle.zone_image.specs.declared.ZoneInfo.{ZoneInfo};
 ghost use Rattle.zone_image.specs.Image.{Image, IsCrash, is_valid};
 ghost use Rattle.zone_image.specs.Changes.{blocks_in, bytes_at, appended, finished, emptied, synced, blank};
-ghost use Rattle.zone_image.specs.Infos.{info_at, active_zones, infos_appended, infos_finished, infos_emptied, infos_blank, IsPossible, IsImage, Shows, ShowsSome};
+ghost use Rattle.zone_image.specs.Infos.{info_at, active_zones, infos_appended, infos_finished, infos_emptied, infos_blank, IsPossible, IsImage, IsValidImage, Shows, ShowsSome};
 ghost use Rattle.zone_image.specs.Moments.{PassedByAppend, PassedByFinish, PassedByReset, LeavesOnly, KeepsMoments};
 ghost use Rattle.zone_image.specs.Counts.{next_tick, HasCause, Counts};
 
@@ -257,6 +257,10 @@ pub trait ZonedDevice: Drop {
 
     /// What is told of an earlier tick holds more, and at the present tick only crashes of the image.
     ghost moments: { KeepsMoments tells image tick since };
+
+    /// Whatever a crash might have left is an image that a device may have: no more zones are active than the limit, no
+    /// zone has more blocks than its capacity, and one that has as many is sealed.
+    ghost valid_since: { (d : Self) (t : ℕ) (j : Image) → known d → since d t j → IsValidImage j };
 
     /// A device that tells its moments tells each crash of the image that stands.
     ghost since_all: { (d : Self) (j : Image) → tells_moments → known d → IsCrash (image d) j → since d (tick d) j };

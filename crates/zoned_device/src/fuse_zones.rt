@@ -42,7 +42,7 @@ impl FuseZones {
 
 impl ZonedDevice for FuseZones {
     ghost use Rattle.zoned_device.specs.MemState.{image_of, geometry_of, infos_in, tick_of, since_of, IsKnown, IsAbsent, Fails};
-    ghost use Rattle.zoned_device.specs.MemLaws.{mem_moments, mem_possible, mem_told, mem_there, mem_since_all};
+    ghost use Rattle.zoned_device.specs.MemLaws.{mem_moments, mem_possible, mem_told, mem_there, mem_valid_since, mem_since_all};
 
     ghost known = { IsKnown };
 
@@ -123,6 +123,8 @@ impl ZonedDevice for FuseZones {
     ghost there = { λ m _ known absent. mem_there m known absent };
 
     ghost moments = { mem_moments };
+
+    ghost valid_since = { λ m t j known left. mem_valid_since m t j known left };
 
     ghost since_all = { λ m j _ known crash. mem_since_all m j known crash };
 }

@@ -25,13 +25,13 @@ pub struct MemZones {
 }
 
 impl Model for MemZones {
-    ghost use Rattle.zoned_device.specs.MemState.{MemState, BeganBefore};
+    ghost use Rattle.zoned_device.specs.MemState.{MemState, HoldsMoments};
 
     ghost Value = { MemState };
 
     ghost view = { λ m. record { content = m.«record»; calls = m.calls } };
 
-    ghost invariant = { λ m. BeganBefore m.calls.tick m.«record» };
+    ghost invariant = { λ m. HoldsMoments m.calls.tick m.«record» };
 }
 
 impl MemZones {
@@ -177,7 +177,7 @@ impl MemZones {
 
 impl ZonedDevice for MemZones {
     ghost use Rattle.zoned_device.specs.MemState.{image_of, geometry_of, infos_in, tick_of, since_of, IsKnown, IsAbsent, Fails};
-    ghost use Rattle.zoned_device.specs.MemLaws.{mem_moments, mem_possible, mem_told, mem_there, mem_since_all};
+    ghost use Rattle.zoned_device.specs.MemLaws.{mem_moments, mem_possible, mem_told, mem_there, mem_valid_since, mem_since_all};
 
     ghost known = { IsKnown };
 
@@ -296,6 +296,8 @@ impl ZonedDevice for MemZones {
     ghost there = { λ m _ known absent. mem_there m known absent };
 
     ghost moments = { mem_moments };
+
+    ghost valid_since = { λ m t j known left. mem_valid_since m t j known left };
 
     ghost since_all = { λ m j _ known crash. mem_since_all m j known crash };
 }

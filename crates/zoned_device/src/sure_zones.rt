@@ -147,5 +147,7 @@ impl ZonedDevice for SureZones {
 
     ghost moments = { record { earlier = λ _ _ _ _ _ none. absurd none; since_now = λ _ _ none. absurd none; since_told = λ _ _ _ none. tt } };
 
+    ghost valid_since = { λ _ _ _ _ none. absurd none };
+
     ghost since_all = { λ _ _ none _ _. absurd none };
 }

@@ -32,6 +32,9 @@ next_record-requires-clause-is_known g c = c.loop-left.invariant.reads.still_kno
 pub returns-in-End-clause-device : goal.returns-in-End-clause-device
 returns-in-End-clause-device g c = reads_on g.met.D.ZonedDevice.moments c.loop-left.invariant.reads c.next_record.ensures.device
 
+pub returns-in-Err-clause-device : goal.returns-in-Err-clause-device
+returns-in-Err-clause-device g c = reads_on g.met.D.ZonedDevice.moments c.loop-left.invariant.reads c.next_record.ensures.device
+
 pub loop-left-preserved : goal.loop-left-preserved
 loop-left-preserved g c =
     let D = g.D.ZonedDevice in

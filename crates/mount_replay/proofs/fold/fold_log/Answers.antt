@@ -16,6 +16,12 @@ use Rattle.mount_replay.proofs.fold.fold_log.Goals as goal
 pub returns-in_err-ended-clause-device : goal.returns-in_err-ended-clause-device
 returns-in_err-ended-clause-device g c = reads_on g.met.D.ZonedDevice.moments c.loop-taken.invariant.0 c.in_ok-found.ensures.device
 
+pub returns-in_err-found-clause-device : goal.returns-in_err-found-clause-device
+returns-in_err-found-clause-device g c = reads_on g.met.D.ZonedDevice.moments c.loop-taken.invariant.0 c.next_record.ensures.device
+
+pub returns-in_default-clause-device : goal.returns-in_default-clause-device
+returns-in_default-clause-device g c = reads_on g.met.D.ZonedDevice.moments c.loop-taken.invariant.0 c.in_ok-found.ensures.device
+
 -- a reader of the same log after another
 same_on : (a b c : ReaderState) → IsSameLog a b → IsSameLog b c → IsSameLog a c
 same_on a b c first second = record {

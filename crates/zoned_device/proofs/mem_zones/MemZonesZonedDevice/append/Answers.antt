@@ -3,8 +3,8 @@ use Rattle.std.specs.Prelude.{is_ok, is_none, ◌&&◌}
 use Rattle.zone_image.specs.Changes.{blocks_in}
 use Rattle.zone_image.specs.Infos.{infos_of, IsValidImage}
 use Rattle.zone_image.proofs.InfoLaws.{infos_written}
-use Rattle.zoned_device.specs.Content.{Append, AllBefore, content_after, calls_after, is_done, room_for}
-use Rattle.zoned_device.specs.MemState.{MemState, image_of, IsKnown, BeganBefore, passes}
+use Rattle.zoned_device.specs.Content.{IsValidContent, Append, AllBefore, content_after, calls_after, is_done, room_for}
+use Rattle.zoned_device.specs.MemState.{MemState, image_of, IsKnown, HoldsMoments, passes}
 use Rattle.zoned_device.specs.CallState.{fault_of}
 use Rattle.zoned_device.proofs.Changes.{CanAppend}
 use Rattle.zoned_device.proofs.Records.{written_bytes}
@@ -17,13 +17,17 @@ old_is : (c : goal.After-append) → ◌≡◌ {A = MemState} (record { content 
 old_is c = sym (ap (λ o. record { content = o; calls = c.self.inside.calls }) c.in-Some.is) ∙ c.self.view_is
 
 began_is : (c : goal.After-append) → AllBefore c.self.inside.calls.tick c.in-Some.record.events
-began_is c = subst (BeganBefore c.self.inside.calls.tick) c.in-Some.is c.self.invariant
+began_is c =
+    let holds : HoldsMoments c.self.inside.calls.tick (Some c.in-Some.record) = subst (HoldsMoments c.self.inside.calls.tick) c.in-Some.is c.self.invariant in
+    holds.0
 
 can : (c : goal.After-append) → CanAppend (image_of c.args.self.now) c.args.zone (blocks_in (image_of c.args.self.now).geometry c.args.bytes.now)
 can c = can_append (image_of c.args.self.now) c.args.zone c.args.bytes.now c.requires.is_zone c.requires.some c.requires.whole c.requires.unsealed c.requires.room c.requires.active
 
 image_is : (c : goal.After-append) → IsValidImage (image_of c.args.self.now)
-image_is c = subst (λ (m : MemState). IsValidImage (image_of m)) (old_is c) (subst IsKnown (sym (old_is c)) c.requires.is_known)
+image_is c =
+    let valid : IsValidContent c.in-Some.record = subst IsKnown (sym (old_is c)) c.requires.is_known in
+    subst (λ (m : MemState). IsValidImage (image_of m)) (old_is c) valid.standing
 
 same_blocks : (c : goal.After-append) → blocks_in c.in-Some.record.standing.geometry c.args.bytes.now ≡ blocks_in (image_of c.args.self.now).geometry c.args.bytes.now
 same_blocks c = ap (λ (m : MemState). blocks_in (image_of m).geometry c.args.bytes.now) (old_is c)
@@ -38,7 +42,7 @@ answer_is : (c : goal.After-append) → is_ok c.append.result ≡ is_done c.self
 answer_is c = c.append.ensures.answer ∙ ap (λ bs. is_done c.self.inside.calls (Append c.args.zone bs) c.in-Some.record) (same_blocks c)
 
 pub invariant_of-self : goal.invariant_of-self
-invariant_of-self c = call_began c.args.self.now c.in-Some.record c.self.inside.calls (Append c.args.zone (blocks_in (image_of c.args.self.now).geometry c.args.bytes.now)) (old_is c) c.requires.is_known (can c) (began_is c) c.append.ensures.within c.append.new.record c.append.new.calls (content_is c) (counts_is c)
+invariant_of-self c = (call_began c.args.self.now c.in-Some.record c.self.inside.calls (Append c.args.zone (blocks_in (image_of c.args.self.now).geometry c.args.bytes.now)) (old_is c) c.requires.is_known (can c) (began_is c) c.append.ensures.within c.append.new.record c.append.new.calls (content_is c) (counts_is c), (call_valid c.args.self.now c.in-Some.record c.self.inside.calls (Append c.args.zone (blocks_in (image_of c.args.self.now).geometry c.args.bytes.now)) (old_is c) c.requires.is_known (can c) (began_is c) c.append.ensures.within c.append.new.record c.append.new.calls (content_is c) (counts_is c)).moments)
 
 pub returns-clause-still_known : goal.returns-clause-still_known
 returns-clause-still_known c = call_valid c.args.self.now c.in-Some.record c.self.inside.calls (Append c.args.zone (blocks_in (image_of c.args.self.now).geometry c.args.bytes.now)) (old_is c) c.requires.is_known (can c) (began_is c) c.append.ensures.within c.append.new.record c.append.new.calls (content_is c) (counts_is c)

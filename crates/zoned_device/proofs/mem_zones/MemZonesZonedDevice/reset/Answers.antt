@@ -2,7 +2,7 @@ use Rattle.std.proofs.Common.{◌≡◌, Some, sym, ◌∙◌, ap, subst}
 use Rattle.zone_image.specs.Infos.{infos_of}
 use Rattle.zone_image.proofs.InfoLaws.{infos-emptied}
 use Rattle.zoned_device.specs.Content.{Reset, AllBefore}
-use Rattle.zoned_device.specs.MemState.{MemState, image_of, BeganBefore}
+use Rattle.zoned_device.specs.MemState.{MemState, image_of, HoldsMoments}
 use Rattle.zoned_device.proofs.DeviceCalls.{on_ok, on_err, call_valid, call_began, call_leaves, call_done, call_stands, reset_shows}
 use Rattle.zoned_device.proofs.mem_zones.MemZonesZonedDevice.reset.Goals as goal
 
@@ -11,10 +11,12 @@ old_is : (c : goal.After-reset) → ◌≡◌ {A = MemState} (record { content =
 old_is c = sym (ap (λ o. record { content = o; calls = c.self.inside.calls }) c.in-Some.is) ∙ c.self.view_is
 
 began_is : (c : goal.After-reset) → AllBefore c.self.inside.calls.tick c.in-Some.record.events
-began_is c = subst (BeganBefore c.self.inside.calls.tick) c.in-Some.is c.self.invariant
+began_is c =
+    let holds : HoldsMoments c.self.inside.calls.tick (Some c.in-Some.record) = subst (HoldsMoments c.self.inside.calls.tick) c.in-Some.is c.self.invariant in
+    holds.0
 
 pub invariant_of-self : goal.invariant_of-self
-invariant_of-self c = call_began c.args.self.now c.in-Some.record c.self.inside.calls (Reset c.args.zone) (old_is c) c.requires.is_known (c.requires.is_zone) (began_is c) c.reset.ensures.within c.reset.new.record c.reset.new.calls c.reset.ensures.content c.reset.ensures.counts
+invariant_of-self c = (call_began c.args.self.now c.in-Some.record c.self.inside.calls (Reset c.args.zone) (old_is c) c.requires.is_known (c.requires.is_zone) (began_is c) c.reset.ensures.within c.reset.new.record c.reset.new.calls c.reset.ensures.content c.reset.ensures.counts, (call_valid c.args.self.now c.in-Some.record c.self.inside.calls (Reset c.args.zone) (old_is c) c.requires.is_known (c.requires.is_zone) (began_is c) c.reset.ensures.within c.reset.new.record c.reset.new.calls c.reset.ensures.content c.reset.ensures.counts).moments)
 
 pub returns-clause-still_known : goal.returns-clause-still_known
 returns-clause-still_known c = call_valid c.args.self.now c.in-Some.record c.self.inside.calls (Reset c.args.zone) (old_is c) c.requires.is_known (c.requires.is_zone) (began_is c) c.reset.ensures.within c.reset.new.record c.reset.new.calls c.reset.ensures.content c.reset.ensures.counts
