@@ -26,6 +26,7 @@ struct Parts {
 // All that is read of a device.
 fn parts_of<D: ZonedDevice>(alloc: Global, dev: &mut D) -> Result<Parts, MountError>
     ensures known { OnOk result (D.known dev.new) }
+    ensures still_known { D.known dev.old → D.known dev.new }
     ensures there { OnOk result (D.tells → D.absent dev.old → ⊥) }
     ensures geometry { IfOk result (λ p. D.geometry dev.new ≡ p.tables.state.geometry) }
     ensures written { IfOk result (λ p. All (IsWrittenExtent p.tables.state.geometry (D.infos dev.new)) (all_extents (recorded p.tables.state))) }
@@ -67,6 +68,7 @@ impl<D: ZonedDevice> Fs<D> {
         ensures same_image { IfOk result (λ f. D.tells → D.image f.device ≡ D.image dev) }
         ensures image_stays { IfErr result (λ r. D.tells → D.image r.dev ≡ D.image dev) }
         ensures any_moment { IfOk result (λ f. LeavesOnly D.tick D.since dev f.device (IsCrash (D.image dev))) }
+        ensures still_known { IfErr result (λ r. D.known dev → D.known r.dev) }
         ensures moments_stay { IfErr result (λ r. LeavesOnly D.tick D.since dev r.dev (IsCrash (D.image dev))) }
         ensures changes { IfOk result (λ f. D.failed_changes f.device ≡ D.failed_changes dev) }
         ensures changes_stay { IfErr result (λ r. D.failed_changes r.dev ≡ D.failed_changes dev) }

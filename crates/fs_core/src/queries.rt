@@ -93,7 +93,8 @@ impl<D: ZonedDevice> Fs<D> {
 
     /// Gives the device back. Nothing is written.
     pub fn unmount(self) -> D
-        ensures { result ≡ self.device }
+        ensures device { result ≡ self.device }
+        ensures known { D.known result }
     {
         self.dev
     }

@@ -1,5 +1,7 @@
 // What is always true of a mounted file system, for its callers' proofs.
-ghost use Rattle.std.specs.Prelude.{◌≡◌, true, false};
+ghost use Rattle.std.specs.Prelude.{◌≡◌, ℕ, true, false};
+ghost use Rattle.zone_image.specs.Image.{Image};
+ghost use Rattle.zone_image.specs.Infos.{IsValidImage};
 ghost use Rattle.fs_model.specs.CrashClauses.{Agrees};
 ghost use Rattle.change_cover.specs.Rests.{Stands};
 ghost use Rattle.fs_tables.specs.MountedTables.{IsSoundState};
@@ -26,6 +28,14 @@ impl<D: ZonedDevice> Fs<D> {
     /// which is shown, and no file has a recovery point. It does nothing.
     pub fn stands(&self)
         ensures { self.now.writing ≡ true → self.now.stopped ≡ false → D.tells → Stands (D.image self.now.device) self.now.state }
+    {
+        self.tables.valid();
+    }
+
+    /// No crash, at whichever moment, finds more zones active than the device's limit, nor a zone with more blocks than its
+    /// capacity: what it might have left is an image that a device may have. It does nothing.
+    pub fn keeps_limits(&self)
+        ensures { (t : ℕ) (j : Image) → D.since self.now.device t j → IsValidImage j }
     {
         self.tables.valid();
     }

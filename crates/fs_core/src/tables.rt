@@ -24,6 +24,7 @@ use zoned_device::{ProbeError, ZonedDevice};
 /// The shape of the device.
 pub(crate) fn shape_of<D: ZonedDevice>(dev: &mut D) -> Result<Geometry, MountError>
     ensures known { OnOk result (D.known dev.new) }
+    ensures still_known { D.known dev.old → D.known dev.new }
     ensures shape { IfOk result (λ geometry. geometry ≡ D.geometry dev.new) }
     ensures there { OnOk result (D.tells → D.absent dev.old → ⊥) }
     ensures refused { IfErr result (λ why. HasMountReason (Rose (D.faults dev.old) (D.faults dev.new)) D.tells (D.absent dev.old) (state_in (D.image dev.old)) why) }

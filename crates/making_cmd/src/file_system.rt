@@ -42,6 +42,7 @@ pub fn make_fs<D: ZonedDevice, O: Sink>(
         (D.tells → D.absent dev.old)
         (λ zone. IsTrue (not force) × (D.tells → (D.absent dev.old → ⊥) × (begins_in (D.image dev.old) ≡ Some zone)))) }
     ensures unchanged { IfErr result (StaysUnmade (D.tells → D.image dev.new ≡ D.image dev.old)) }
+    ensures still_known { D.known dev.old → D.known dev.new }
     ensures any_moment { LeavesOnly D.tick D.since dev.old dev.new (LeavesOldOrNewFs (superblock_for settings.now random) (D.image dev.old)) }
     ensures silent { IfErr result (IsSilent (out.new ≡ out.old)) }
 {
@@ -71,6 +72,7 @@ fn shape_to_format<D: ZonedDevice>(
         (λ zone. IsTrue (not force) × (D.tells → (D.absent dev.old → ⊥) × (begins_in (D.image dev.old) ≡ Some zone)))) }
     ensures same_image { D.tells → D.image dev.new ≡ D.image dev.old }
     ensures never_falls { D.faults dev.old ≤ D.faults dev.new }
+    ensures still_known { D.known dev.old → D.known dev.new }
     ensures any_moment { LeavesOnly D.tick D.since dev.old dev.new (IsCrash (D.image dev.old)) }
 {
     let geometry = shape_of(dev)?;
@@ -89,6 +91,7 @@ fn shape_of<D: ZonedDevice>(dev: &mut D) -> Result<Geometry, MakeFsError>
     ensures refused { IfErr result (HasFsReason (Rose (D.faults dev.old) (D.faults dev.new)) ⊥ (D.tells → D.absent dev.old) (λ _. ⊥)) }
     ensures same_image { D.tells → D.image dev.new ≡ D.image dev.old }
     ensures never_falls { D.faults dev.old ≤ D.faults dev.new }
+    ensures still_known { D.known dev.old → D.known dev.new }
     ensures any_moment { LeavesOnly D.tick D.since dev.old dev.new (IsCrash (D.image dev.old)) }
 {
     match dev.probe() {
@@ -137,6 +140,7 @@ fn write_fs<D: ZonedDevice>(
     ensures refused { IfErr result (HasFsReason (Rose (D.faults dev.old) (D.faults dev.new)) ⊥ ⊥ (λ _. ⊥)) }
     ensures unchanged { IfErr result (StaysUnmade (D.tells → D.image dev.new ≡ D.image dev.old)) }
     ensures still_shaped { D.geometry dev.new ≡ D.geometry dev.old }
+    ensures still_known { D.known dev.new }
     ensures any_moment { LeavesOnly D.tick D.since dev.old dev.new (LeavesOldOrNewFs (superblock_for settings.now random) (D.image dev.old)) }
 {
     let superblock = new_superblock(geometry, settings, random);

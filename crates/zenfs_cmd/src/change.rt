@@ -31,6 +31,7 @@ pub(crate) fn change_names<'a, D: ZonedDevice>(
     ensures refused { (at : Word) → IfErr result.0 (HasReason (Some (command_asked at asked.entry)) (Rose (D.faults dev) (D.faults result.1)) (λ _. ⊥)
         D.tells (D.absent dev) (D.image dev)) }
     ensures unwritten { (at : Word) → IfErr result.0 (λ cause. IsUnwritten (Some (command_asked at asked.entry)) cause (D.tells → D.image result.1 ≡ D.image dev)) }
+    ensures still_known { D.known dev → D.known result.1 }
     ensures any_moment { (at : Word) → LeavesOnly D.tick D.since dev result.1 (LeftByChange (command_asked at asked.entry) (D.image dev)) }
 {
     match mount(alloc, dev) {

@@ -3,6 +3,7 @@ ghost use Rattle.std.specs.Prelude.{◌≡◌, ◌≢◌, ◌⊎◌, ◌↔◌, 
 ghost use Rattle.zone_image.specs.declared.Geometry.{Geometry};
 ghost use Rattle.zone_image.specs.Counts.{Rose};
 ghost use Rattle.zone_image.specs.Image.{Image};
+ghost use Rattle.zone_image.specs.Infos.{IsValidImage};
 ghost use Rattle.zone_image.specs.Moments.{LeavesOnly};
 ghost use Rattle.log_model.specs.FileTree.{Tree, apply_all};
 ghost use Rattle.log_model.specs.Format.{new_superblock};
@@ -95,6 +96,10 @@ pub fn run<D: ZonedDevice, O: Sink, E: Sink>(
     ensures unchanged { changes (command_in (map string_bytes words.now)) ≡ false → D.tells → D.image result.1 ≡ D.image dev }
     ensures any_moment { makes_image (command_in (map string_bytes words.now)) ≡ false
         → LeavesOnly D.tick D.since dev result.1 (MayLeave random (command_in (map string_bytes words.now)) (D.image dev)) }
+
+    // No crash finds more zones active than the limit, on a device that had an image at entry.
+    ensures limits { makes_image (command_in (map string_bytes words.now)) ≡ false → D.known dev
+        → (t : ℕ) (j : Image) → D.since result.1 t j → IsValidImage j }
 {
     let (ended, dev) = obey(alloc, words, dev, out, random);
     match ended {
@@ -130,6 +135,7 @@ fn obey<'a, D: ZonedDevice, O: Sink>(
     ensures silent { IfErr result.0 (λ cause. IsSilent cause (out.new ≡ out.old)) }
     ensures unwritten { IfErr result.0 (λ cause. IsUnwritten (command_in (map string_bytes words.now)) cause (D.tells → D.image result.1 ≡ D.image dev)) }
     ensures unchanged { changes (command_in (map string_bytes words.now)) ≡ false → D.tells → D.image result.1 ≡ D.image dev }
+    ensures still_known { makes_image (command_in (map string_bytes words.now)) ≡ false → D.known dev → D.known result.1 }
     ensures any_moment { makes_image (command_in (map string_bytes words.now)) ≡ false
         → LeavesOnly D.tick D.since dev result.1 (MayLeave random (command_in (map string_bytes words.now)) (D.image dev)) }
 {

@@ -30,6 +30,7 @@ pub(crate) fn show_info<'a, D: ZonedDevice, O: Sink>(
         D.tells (D.absent dev) (D.image dev)) }
     ensures silent { IfErr result.0 (λ cause. IsSilent cause (out.new ≡ out.old)) }
     ensures unchanged { D.tells → D.image result.1 ≡ D.image dev }
+    ensures still_known { D.known dev → D.known result.1 }
     ensures any_moment { LeavesOnly D.tick D.since dev result.1 (IsCrash (D.image dev)) }
 {
     let (text, dev) = text_of(alloc, dev);
@@ -49,6 +50,7 @@ fn text_of<'a, D: ZonedDevice>(alloc: Global, dev: D) -> (Result<Payload, Cause<
     ensures refused { (at : Word) → IfErr result.0 (HasReason (Some (ShowInfo at))
         (Rose (D.faults dev) (D.faults result.1)) (λ _. ⊥) D.tells (D.absent dev) (D.image dev)) }
     ensures unchanged { D.tells → D.image result.1 ≡ D.image dev }
+    ensures still_known { D.known dev → D.known result.1 }
     ensures any_moment { LeavesOnly D.tick D.since dev result.1 (IsCrash (D.image dev)) }
 {
     match mount(alloc, dev) {

@@ -37,6 +37,7 @@ pub(crate) fn list_files<'a, D: ZonedDevice, O: Sink>(
         D.tells (D.absent dev) (D.image dev)) }
     ensures silent { IfErr result.0 (λ cause. IsSilent cause (out.new ≡ out.old)) }
     ensures unchanged { D.tells → D.image result.1 ≡ D.image dev }
+    ensures still_known { D.known dev → D.known result.1 }
     ensures any_moment { LeavesOnly D.tick D.since dev result.1 (IsCrash (D.image dev)) }
 {
     let (text, dev) = text_of(alloc, dev, prefix);
@@ -60,6 +61,7 @@ fn text_of<'a, D: ZonedDevice>(
     ensures refused { (at : Word) → IfErr result.0 (HasReason (Some (ListFiles at (option_copied prefix.entry)))
         (Rose (D.faults dev) (D.faults result.1)) (λ _. ⊥) D.tells (D.absent dev) (D.image dev)) }
     ensures unchanged { D.tells → D.image result.1 ≡ D.image dev }
+    ensures still_known { D.known dev → D.known result.1 }
     ensures any_moment { LeavesOnly D.tick D.since dev result.1 (IsCrash (D.image dev)) }
 {
     match mount(alloc, dev) {

@@ -69,6 +69,7 @@ pub(crate) fn make_file_system<'a, D: ZonedDevice, O: Sink>(
         D.tells (D.absent dev.old) (D.image dev.old)) }
     ensures silent { IfErr result (λ cause. IsSilent cause (out.new ≡ out.old)) }
     ensures unwritten { IfErr result (λ cause. IsUnwritten None cause (D.tells → D.image dev.new ≡ D.image dev.old)) }
+    ensures still_known { D.known dev.old → D.known dev.new }
     ensures any_moment { (at : Word) → LeavesOnly D.tick D.since dev.old dev.new (MayLeave random
         (Some (MakeFs at options.now.aux_path.now options.now.finish_threshold options.now.collect options.now.force)) (D.image dev.old)) }
 {

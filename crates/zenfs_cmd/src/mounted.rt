@@ -22,6 +22,7 @@ pub(crate) fn mount<'a, D: ZonedDevice>(alloc: Global, dev: D) -> Result<Fs<D>, 
     ensures same_image { IfOk result (λ f. D.tells → D.image f.device ≡ D.image dev) }
     ensures image_stays { IfErr result (λ r. D.tells → D.image r.1 ≡ D.image dev) }
     ensures any_moment { IfOk result (λ f. LeavesOnly D.tick D.since dev f.device (IsCrash (D.image dev))) }
+    ensures still_known { IfErr result (λ r. D.known dev → D.known r.1) }
     ensures moments_stay { IfErr result (λ r. LeavesOnly D.tick D.since dev r.1 (IsCrash (D.image dev))) }
     ensures never_falls { IfOk result (λ f. D.faults dev ≤ D.faults f.device) }
 {

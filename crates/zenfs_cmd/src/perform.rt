@@ -36,6 +36,7 @@ pub(crate) fn perform<'a, D: ZonedDevice, O: Sink>(
     ensures silent { IfErr result.0 (λ cause. IsSilent cause (out.new ≡ out.old)) }
     ensures unwritten { IfErr result.0 (λ cause. IsUnwritten (Some (meaning_of command.entry)) cause (D.tells → D.image result.1 ≡ D.image dev)) }
     ensures unchanged { changes (Some (meaning_of command.entry)) ≡ false → D.tells → D.image result.1 ≡ D.image dev }
+    ensures still_known { makes_image (Some (meaning_of command.entry)) ≡ false → D.known dev → D.known result.1 }
     ensures any_moment { makes_image (Some (meaning_of command.entry)) ≡ false → LeavesOnly D.tick D.since dev result.1 (MayLeave random (Some (meaning_of command.entry)) (D.image dev)) }
 {
     match command {

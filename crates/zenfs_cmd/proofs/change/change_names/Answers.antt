@@ -16,7 +16,7 @@ pub returns-in-Ok-clause-done : goal.returns-in-Ok-clause-done
 returns-in-Ok-clause-done g c = λ at.
     let D = g.D.ZonedDevice in
     let new = c.change_mounted-ended.new.fs in
-    rw c.unmount.ensures (
+    rw c.unmount.ensures.device (
     changed_if_ok c.change_mounted-ended.result (command_asked at c.args.asked) (D.image c.args.dev) (D.image c.in-Ok.fs.device) (D.image new.device) c.in-Ok.fs.state new.state
     D.tells c.in-Ok.ensures.state c.in-Ok.ensures.same_image (c.change_mounted-ended.ensures.planned at) (c.change_mounted-ended.ensures.made at))
 
@@ -35,7 +35,7 @@ returns-in-Ok-clause-refused g c = λ at.
     let D = g.D.ZonedDevice in
     let dev = c.args.dev in
     let k = command_asked at c.args.asked in
-    rw c.unmount.ensures (
+    rw c.unmount.ensures.device (
     IfErr-weaker c.change_mounted-ended.result _ _ (λ cause reason.
     refused_by k (Rose (D.faults dev) (D.faults c.change_mounted-ended.new.fs.device)) (Rose (D.faults c.in-Ok.fs.device) (D.faults c.change_mounted-ended.new.fs.device)) (λ _. ⊥)
     D.tells (D.absent dev) (D.image dev) c.in-Ok.fs.state cause c.in-Ok.ensures.there c.in-Ok.ensures.state
@@ -46,7 +46,7 @@ pub returns-in-Ok-clause-any_moment : goal.returns-in-Ok-clause-any_moment
 returns-in-Ok-clause-any_moment g c = λ at.
     let D = g.D.ZonedDevice in
     let k = command_asked at c.args.asked in
-    rw c.unmount.ensures (
+    rw c.unmount.ensures.device (
     goes_on g.met.D.ZonedDevice.moments (LeftByChange k (D.image c.args.dev)) c.in-Ok.ensures.any_moment (c.change_mounted-ended.ensures.any_moment at)
     (λ j told crash. inl crash)
     (λ j told left. subst (λ (i : Image). LeftByChange k i j) (c.in-Ok.ensures.same_image told) left))
