@@ -1,21 +1,18 @@
 -- The lengths of records after a change of names.
-use Rattle.std.specs.Prelude.{◌≡◌, ℕ, zero, suc, ◌+◌, ◌<◌, ◌≤◌, Bool, true, false, not, cond, List, [], ◌∷◌, ◌++◌, length, map, filter, max, min, Option, Some, None, unwrap_or, option_map, ◌==◌, ◌^◌, ◌-◌, refl}
+use Rattle.std.specs.Prelude.{◌≡◌, ℕ, zero, suc, ◌+◌, ◌<◌, ◌≤◌, Bool, true, false, not, cond, List, [], ◌∷◌, ◌++◌, length, map, filter, max, min, Option, Some, unwrap_or, option_map, ◌==◌, ◌^◌, ◌-◌, refl}
 use Rattle.std.specs.List.{AllByRecursion, flat_map}
 use Rattle.std.specs.Str.{bytes_eq}
-use Rattle.std.proofs.Common.{get_or, set, take, ap, sym, subst, ◌∙◌, arith, append_assoc, length-append}
+use Rattle.std.proofs.Common.{get_or, set, take, ap, sym, subst, ◌∙◌, arith, length-append}
 use Rattle.std.proofs.lemmas.List.{append-nil, map-append, take_more}
 use Rattle.std.proofs.lemmas.List.Elements.{filter-append}
 use Rattle.std.proofs.lemmas.Grind.{flat_map-append}
-use Rattle.record_model.specs.Numbers.{u32, varint}
-use Rattle.record_model.specs.Encoding.{field_bytes, entry_bytes, payload_of, slice}
+use Rattle.record_model.specs.Encoding.{field_bytes, entry_bytes, slice}
 use Rattle.record_model.specs.declared.field.Field.TheVariants.{Linked}
 use Rattle.record_model.specs.declared.types.FileEntry.{FileEntry}
-use Rattle.record_model.specs.declared.types.Record.TheVariants.{Snapshot, Update}
 use Rattle.record_codec.specs.Length.{told}
 use Rattle.record_codec.proofs.Entries.{entry_len}
 use Rattle.log_model.specs.FileTable.{Table, is_among, is_named, names_left}
 use Rattle.log_model.specs.FileTree.{renamed}
-use Rattle.log_model.specs.TableLaws.{IsTable}
 use Rattle.fs_model.specs.FsState.{TableRow, working_entry, working_of, row_of, row_named, on_row}
 use Rattle.fs_model.specs.TreeSteps.{with_names, drop_name, entry_in, entry_update, renamed_rows}
 use Rattle.record_model.specs.declared.types.Record.{Record}

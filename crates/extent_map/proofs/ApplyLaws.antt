@@ -1,5 +1,5 @@
 -- Rows of a table in which everything is recorded.
-use Rattle.std.specs.Prelude.{All, ◌≤◌, ◌≡◌, ℕ, suc, ◌+◌, ◌-◌, ◌<◌, Bool, true, false, not, cond, List, [], ◌∷◌, length, max, nat_lt, ◌==◌, Some, None, option_map, Result, Ok, Err, refl}
+use Rattle.std.specs.Prelude.{All, ◌≤◌, ◌≡◌, ℕ, ◌+◌, ◌<◌, Bool, true, false, not, cond, List, [], ◌∷◌, length, max, nat_lt, ◌==◌, Some, None, option_map, Result, Ok, Err, refl}
 use Rattle.std.proofs.lemmas.List.Elements.{All-map}
 use Rattle.std.proofs.Common.{subst, drop, get_or, ap, sym, ◌∙◌, arith, add-one, drop-cons}
 use Rattle.std.proofs.lemmas.Bool.{lt-ltb, ltb-true, ltb-false, eqb-true, and_parts}
@@ -8,12 +8,12 @@ use Rattle.record_model.specs.Grammar.{InGrammar, IsWritable}
 use Rattle.record_model.specs.declared.types.Record.{Record}
 use Rattle.record_model.specs.declared.types.FileEntry.{FileEntry}
 use Rattle.record_model.specs.declared.types.Record.TheVariants.{Snapshot, Update, Deletion, End, Replace}
-use Rattle.log_model.specs.FileTable.{Table, file_of, with_entry, has_right_size, grown, sorted, size_of, after_record, unless_broken, set_entry, delete_from, take_names, is_among, repeats_id, repeats_name, is_named}
+use Rattle.log_model.specs.FileTable.{Table, file_of, has_right_size, grown, sorted, size_of, after_record, unless_broken, set_entry, delete_from, take_names, is_among, repeats_id, repeats_name, is_named}
 use Rattle.log_model.specs.TableLaws.{IsNamedRecord}
 use Rattle.log_model.specs.declared.selection.DamageWhy.TheVariants as why
 use Rattle.log_model.specs.declared.selection.DamageWhy.{DamageWhy}
 use Rattle.fs_model.specs.FsState.{TableRow, mounted_row, row_of, greatest_id}
-use Rattle.extent_map.specs.Applying.{rows_of, with_row, IsMade, snapshot_table}
+use Rattle.extent_map.specs.Applying.{rows_of, IsMade, snapshot_table}
 use Rattle.extent_map.specs.Records.{recorded_of}
 use Rattle.extent_map.specs.Sound.{IsSound}
 
@@ -38,18 +38,6 @@ file_recorded id (r ∷ rs) = choice (r.entry.id == id) (file_recorded id rs)
     choice true h = refl
     choice false h = h
 
--- an entry in its place, seen as rows
-pub with_rows : (e : FileEntry) (es : Table) → with_row (mounted_row e) (rows_of es) ≡ rows_of (with_entry e es)
-with_rows e [] = refl
-with_rows e (f ∷ fs) = choice (nat_lt e.id f.id) (e.id == f.id) (with_rows e fs)
-  where
-    choice : (b c : Bool) → with_row (mounted_row e) (rows_of fs) ≡ rows_of (with_entry e fs)
-        → cond b (mounted_row e ∷ mounted_row f ∷ rows_of fs) (cond c (mounted_row e ∷ rows_of fs) (mounted_row f ∷ with_row (mounted_row e) (rows_of fs)))
-        ≡ rows_of (cond b (e ∷ f ∷ fs) (cond c (e ∷ fs) (f ∷ with_entry e fs)))
-    choice true c h = refl
-    choice false true h = refl
-    choice false false h = ap (λ (rs : List TableRow). mounted_row f ∷ rs) h
-
 -- the greatest id is the greater of the first and of the rest
 greatest_first : (e : FileEntry) (es : Table) → greatest_id (e ∷ es) ≡ max e.id (greatest_id es)
 greatest_first e es = choice (nat_lt e.id (greatest_id es)) refl
@@ -65,17 +53,6 @@ greatest_more i rows r greatest all lt is h =
     let split : drop i rows ≡ r ∷ drop (i + 1) rows = rw (drop-cons rows i r lt, ← is, add-one) refl in
     let rest = ap (λ (rs : List TableRow). greatest_id (recorded_of rs)) split ∙ greatest_first r.entry (recorded_of (drop (i + 1) rows)) in
     omega (arith, rest, h)
-
--- one more of the last entries in order
-pub sorted_more : (i : ℕ) (files : Table) (e : FileEntry) (rows : List TableRow) → i < length files → e ≡ get_or files (length files - 1 - i) e
-    → rows ≡ rows_of (sorted (drop (length files - i) files)) → with_row (mounted_row e) rows ≡ rows_of (sorted (drop (length files - (i + 1)) files))
-sorted_more i files e rows lt is h =
-    let at : length files - 1 - i < length files = omega arith in
-    let place : length files - (i + 1) ≡ length files - 1 - i = omega arith in
-    let next : suc (length files - 1 - i) ≡ length files - i = omega arith in
-    let split : drop (length files - (i + 1)) files ≡ e ∷ drop (length files - i) files =
-    ap (λ k. drop k files) place ∙ drop-cons files (length files - 1 - i) e at ∙ ap (λ (f : FileEntry). f ∷ drop (suc (length files - 1 - i)) files) (sym is) ∙ ap (λ k. e ∷ drop k files) next in
-    ap (with_row (mounted_row e)) h ∙ with_rows e (sorted (drop (length files - i) files)) ∙ sym (ap (λ (fs : Table). rows_of (sorted fs)) split)
 
 -- an entry that a record may have, of the right size, may be a row
 pub sound_entry : (e : FileEntry) → IsWritable e → has_right_size e ≡ true → IsSound e
@@ -110,6 +87,14 @@ snapshot_is files es = refl
 -- a snapshot that breaks no rule
 pub snapshot_made : (files : Table) → list_all has_right_size files ≡ true → repeats_id files ≡ false → repeats_name files ≡ false → snapshot_table files ≡ Ok (sorted files)
 snapshot_made files sized ids names = rw (sized, ids, names) refl
+
+-- one that has an id twice
+pub snapshot_twice : (files : Table) → list_all has_right_size files ≡ true → repeats_id files ≡ true → snapshot_table files ≡ Err (why.Rule 6)
+snapshot_twice files sized ids = rw (sized, ids) refl
+
+-- one that has a name in two entries
+pub snapshot_shared : (files : Table) → list_all has_right_size files ≡ true → repeats_id files ≡ false → repeats_name files ≡ true → snapshot_table files ≡ Err (why.Rule 7)
+snapshot_shared files sized ids names = rw (sized, ids, names) refl
 
 -- a record of the end
 pub end_is : (es : Table) → after_record End es ≡ Ok es

@@ -1,6 +1,6 @@
 -- How much longer a table's snapshot is after a change of names.
-use Rattle.std.specs.Prelude.{◌≡◌, ◌≢◌, ℕ, zero, suc, ◌+◌, ◌*◌, ◌/◌, ◌%◌, ◌<◌, ◌≤◌, Bool, true, false, not, cond, List, [], ◌∷◌, ◌++◌, length, map, Option, Some, None, nat_lt, ◌==◌, refl}
-use Rattle.std.specs.List.{AllByRecursion, flat_map}
+use Rattle.std.specs.Prelude.{◌≡◌, ◌≢◌, ℕ, zero, suc, ◌+◌, ◌*◌, ◌/◌, ◌%◌, ◌≤◌, Bool, true, false, not, cond, List, [], ◌∷◌, ◌++◌, length, map, Some, nat_lt, ◌==◌, refl}
+use Rattle.std.specs.List.{AllByRecursion}
 use Rattle.std.specs.Str.{bytes_eq}
 use Rattle.std.specs.Cmp.Lexicographic.{same_text}
 use Rattle.std.proofs.Common.{ap, sym, subst, ◌∙◌, arith, length-append}
@@ -10,7 +10,7 @@ use Rattle.record_model.specs.Numbers.{u32, varint, varint_within}
 use Rattle.record_model.specs.Encoding.{field_bytes, entry_bytes, payload_of, slice}
 use Rattle.record_model.specs.declared.field.Field.TheVariants.{Linked}
 use Rattle.record_model.specs.declared.types.FileEntry.{FileEntry}
-use Rattle.record_model.specs.declared.types.Record.TheVariants.{Snapshot, Update}
+use Rattle.record_model.specs.declared.types.Record.TheVariants.{Update}
 use Rattle.record_codec.proofs.Entries.{entry_len, name_len, slice_len}
 use Rattle.log_model.specs.FileTable.{is_among, is_named, names_left}
 use Rattle.log_model.specs.FileTree.{renamed}

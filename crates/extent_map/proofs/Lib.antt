@@ -8,7 +8,10 @@ pub mod LinkLaws
 pub mod LookupLaws
 pub mod MoveLaws
 pub mod NameLaws
+pub mod NameSetLaws
 pub mod NoteLaws
+pub mod OrderLaws
 pub mod PlaceLaws
+pub mod RepeatLaws
 pub mod SettingLaws
 pub mod TakenLaws

@@ -2,7 +2,9 @@ pub mod Applying
 pub mod ChangeLengths
 pub mod Changes
 pub mod Creating
+pub mod IdOrder
 pub mod Lookups
+pub mod NameSets
 pub mod Naming
 pub mod Records
 pub mod RowsAfter

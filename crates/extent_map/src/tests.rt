@@ -10,6 +10,7 @@ use std::alloc::Global;
 use std::test::*;
 
 mod links;
+mod snapshots;
 
 // A name.
 fn name(alloc: Global, text: &str) -> Result<Name, Fail> {

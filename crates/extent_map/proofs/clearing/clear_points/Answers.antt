@@ -1,4 +1,4 @@
-use Rattle.std.proofs.Common.{◌<◌, ◌≤◌, ◌≡◌, List, length, map, set, get_or, ap, sym, ◌∙◌, arith, add-one}
+use Rattle.std.proofs.Common.{◌<◌, ◌≤◌, List, length, set, get_or, ap, sym, ◌∙◌, arith, add-one}
 use Rattle.fs_model.specs.FsState.{TableRow}
 use Rattle.fs_model.specs.TreeSteps.{cleared}
 use Rattle.extent_map.proofs.AfterLaws.{changed_to, changed_next, changed_all}

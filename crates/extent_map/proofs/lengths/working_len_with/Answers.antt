@@ -1,5 +1,4 @@
-use Rattle.std.proofs.Common.{◌≡◌, ℕ, ◌∙◌, cond, ap, arith}
-use Rattle.record_codec.specs.Length.{told}
+use Rattle.std.proofs.Common.{◌≡◌, ℕ, cond, ap, arith}
 use Rattle.record_model.specs.declared.types.FileEntry.{FileEntry}
 use Rattle.fs_model.specs.TreeSteps.{with_names}
 use Rattle.extent_map.proofs.LengthLaws.{working_entry_len}

@@ -1,8 +1,7 @@
-use Rattle.std.proofs.Common.{List, ℕ, [], ◌∷◌, length, take, ap, ◌∙◌, arith}
+use Rattle.std.proofs.Common.{List, ℕ, [], ◌∷◌, length, ap, ◌∙◌, arith}
 use Rattle.std.proofs.lemmas.List.{take_all}
 use Rattle.std.specs.List.{flat_map}
 use Rattle.record_codec.specs.Length.{told}
-use Rattle.record_codec.proofs.Lengths.{told_more}
 use Rattle.log_model.specs.FileTable.{names_left}
 use Rattle.extent_map.specs.RowsAfter.{names_bytes}
 use Rattle.extent_map.proofs.AfterLaws.{left_pieces}
