@@ -12,7 +12,7 @@ use Rattle.log_model.proofs.SelectedLog.{ok_is, went_on}
 use Rattle.fs_model.specs.CrashClauses.{Agrees, SameZone}
 use Rattle.fs_model.specs.FsState.{FsState, ZoneDescriptor, state_in, state_with}
 use Rattle.change_cover.specs.Rests.{Rests}
-use Rattle.fs_core.specs.FsValue.{infos_in}
+use Rattle.fs_tables.specs.Steps.{infos_in}
 
 -- zones of the same numbers and seals
 same_zones : (ms : List ZoneDescriptor) (zs : List Zone) → map (λ m. m.info) ms ≡ map info_of zs → AllZip SameZone ms zs

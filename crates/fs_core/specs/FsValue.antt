@@ -1,5 +1,5 @@
 -- What a mounted file system is to its callers.
-use Rattle.std.specs.Prelude.{◌≡◌, ◌<◌, Bool, true, false, List, map, drop, All, Ok}
+use Rattle.std.specs.Prelude.{◌≡◌, ◌<◌, Bool, true, false, List, drop, All, Ok}
 use Rattle.std.specs.List.{AllByRecursion}
 use Rattle.zone_image.specs.declared.Geometry.{Geometry}
 use Rattle.zone_image.specs.declared.ZoneInfo.{ZoneInfo}
@@ -11,6 +11,7 @@ use Rattle.log_model.specs.Mounted.{all_extents}
 use Rattle.fs_model.specs.FsState.{FsState, state_in, recorded, working, descriptor_at}
 use Rattle.change_cover.specs.Rests.{Rests}
 use Rattle.mount_replay.specs.Rules.{IsWrittenExtent}
+use Rattle.fs_tables.specs.Steps.{infos_in}
 
 -- its state, whether it writes, whether a change has failed, and its device
 pub record FsValue (D : Type 0) : Type 0 where
@@ -18,10 +19,6 @@ pub record FsValue (D : Type 0) : Type 0 where
   pub writing : Bool
   pub stopped : Bool
   pub device : D
-
--- the zones as the state has them
-abbrev pub infos_in : FsState → List ZoneInfo
-infos_in s = map (λ z. z.info) s.zones
 
 -- The device is known and of the state's geometry, each recorded extent lies in what is written on it, and unless a change
 -- has failed the zones are as it tells them.

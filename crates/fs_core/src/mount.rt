@@ -6,7 +6,7 @@ ghost use Rattle.zone_image.specs.Moments.{LeavesOnly};
 ghost use Rattle.log_model.specs.Mounted.{all_extents};
 ghost use Rattle.fs_model.specs.FsState.{recorded, state_in};
 ghost use Rattle.mount_replay.specs.Rules.{IsWrittenExtent};
-ghost use Rattle.fs_core.specs.FsValue.{infos_in};
+ghost use Rattle.fs_tables.specs.Steps.{infos_in};
 ghost use Rattle.fs_core.specs.Mounting.{HasMountReason};
 
 use crate::error::{MountError, Refused};
