@@ -7,3 +7,4 @@ pub mod ReasonLaws
 pub mod ChangeEnds
 pub mod EndLaws
 pub mod Standing
+pub mod TreeStays

@@ -1,5 +1,5 @@
 -- What the commands leave.
-use Rattle.std.specs.Prelude.{◌≡◌, ◌⊎◌, ℕ, List, Option, Some, None, Ok}
+use Rattle.std.specs.Prelude.{◌≡◌, ◌⊎◌, ⊤, ℕ, List, Option, Some, None, Ok}
 use Rattle.zone_image.specs.declared.Geometry.{Geometry}
 use Rattle.zone_image.specs.declared.ZoneInfo.{ZoneInfo}
 use Rattle.zone_image.specs.Image.{Image, IsCrash}
@@ -8,8 +8,11 @@ use Rattle.log_model.specs.Format.{new_superblock}
 use Rattle.log_model.specs.Mounted.{MountsTo, table_in}
 use Rattle.fs_model.specs.CrashClauses.{Agrees}
 use Rattle.fs_model.specs.FsState.{FsState, recorded, state_in}
+use Rattle.change_cover.specs.SameTrees.{MountsTheSame}
 use Rattle.command_model.specs.CommandLine.{Command, bad_name_of}
 use Rattle.command_model.specs.CommandLine.Command.{MakeImage, MakeFs, LinkFile, RenameFile, DeleteFile}
+use Rattle.fs_report.specs.declared.cause.Cause.{Cause}
+use Rattle.fs_report.specs.declared.cause.Cause.TheVariants.{NoMemory}
 use Rattle.making_cmd.specs.Made.{IsBlank}
 use Rattle.making_cmd.specs.NewFs.{HasNewFs, LeavesOldOrNewFs}
 use Rattle.zenfs_cmd.specs.Plans.{changes_of, planned}
@@ -43,6 +46,16 @@ Leaves known geometry infos tells image quiet random old new (LinkFile at from t
 Leaves known geometry infos tells image quiet random old new (RenameFile at from to) = LeavesChanged quiet tells (RenameFile at from to) (image old) (image new)
 Leaves known geometry infos tells image quiet random old new (DeleteFile at name) = LeavesChanged quiet tells (DeleteFile at name) (image old) (image new)
 Leaves known geometry infos tells image quiet random old new _ = tells → image new ≡ image old
+
+-- the second image mounts to exactly the tree of the first, and so does whatever a crash leaves of it that isn't left of the first
+pub record LeavesTheTree (i j : Image) : Type 0 where
+  pub standing : MountsTheSame i j
+  pub crashed : (k : Image) → IsCrash j k → IsCrash i k ⊎ MountsTheSame i k
+
+-- a change that ends in want of memory keeps this
+abbrev pub IsKeptWithoutMemory : Cause → Type 0 → Type 0
+IsKeptWithoutMemory NoMemory kept = kept
+IsKeptWithoutMemory _ kept = ⊤
 
 -- the second image mounts to the tree of the first or to that with the command's changes made, but for times
 abbrev pub MountsEither : Command → Image → Image → Type 0

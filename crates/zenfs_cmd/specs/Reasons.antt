@@ -104,7 +104,7 @@ IsJudgement c _ = ⊥
 -- the cause is what a failure means
 abbrev pub IsFailureOf : FsError → Cause → Type 0
 IsFailureOf e DeviceFault = e ≡ error.DevFault
-IsFailureOf e NoMemory = ⊤
+IsFailureOf e NoMemory = e ≡ error.NoMemory
 IsFailureOf e _ = ⊥
 
 -- an error that needs no reason in the image

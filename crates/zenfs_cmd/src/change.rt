@@ -4,7 +4,7 @@ ghost use Rattle.zone_image.specs.Counts.{Rose};
 ghost use Rattle.zone_image.specs.Moments.{LeavesOnly};
 ghost use Rattle.command_model.specs.CommandLine.{bad_name_of};
 ghost use Rattle.command_model.specs.Options.{Word};
-ghost use Rattle.zenfs_cmd.specs.Leaving.{IsChanged, LeftByChange};
+ghost use Rattle.zenfs_cmd.specs.Leaving.{IsChanged, IsKeptWithoutMemory, LeavesTheTree, LeftByChange};
 ghost use Rattle.zenfs_cmd.specs.Made.{IsMade, IsPlanned};
 ghost use Rattle.zenfs_cmd.specs.Reasons.{CanBeDone, HasReason, IsRefusedBy, IsUnwritten, IsUnwrittenBut};
 ghost use Rattle.zenfs_cmd.specs.Words.{command_asked};
@@ -31,6 +31,7 @@ pub(crate) fn change_names<'a, D: ZonedDevice>(
     ensures refused { (at : Word) → IfErr result.0 (HasReason (Some (command_asked at asked.entry)) (Rose (D.faults dev) (D.faults result.1)) (λ _. ⊥)
         D.tells (D.absent dev) (D.image dev)) }
     ensures unwritten { (at : Word) → IfErr result.0 (λ cause. IsUnwritten (Some (command_asked at asked.entry)) cause (D.tells → D.image result.1 ≡ D.image dev)) }
+    ensures tree_stays { IfErr result.0 (λ cause. IsKeptWithoutMemory cause (D.tells → LeavesTheTree (D.image dev) (D.image result.1))) }
     ensures still_known { D.known dev → D.known result.1 }
     ensures any_moment { (at : Word) → LeavesOnly D.tick D.since dev result.1 (LeftByChange (command_asked at asked.entry) (D.image dev)) }
 {
@@ -56,6 +57,7 @@ fn change_mounted<'a, D: ZonedDevice>(
     ensures named { (at : Word) → OnOk result (bad_name_of (command_asked at asked.entry) ≡ None) }
     ensures refused { (at : Word) → IfErr result (IsRefusedBy (command_asked at asked.entry) (Rose (D.faults fs.old.device) (D.faults fs.new.device)) fs.old.state) }
     ensures unwritten { IfErr result (λ cause. IsUnwrittenBut cause (fs.new.device ≡ fs.old.device)) }
+    ensures tree_stays { IfErr result (λ cause. IsKeptWithoutMemory cause (D.tells → LeavesTheTree (D.image fs.old.device) (D.image fs.new.device))) }
     ensures never_falls { D.faults fs.old.device ≤ D.faults fs.new.device }
     ensures any_moment { (at : Word) → LeavesOnly D.tick D.since fs.old.device fs.new.device (LeftByChange (command_asked at asked.entry) (D.image fs.old.device)) }
 {

@@ -17,7 +17,7 @@ ghost use Rattle.command_model.specs.CommandLine as line;
 ghost use Rattle.command_model.specs.CommandLine.Command.{MakeImage, MakeFs};
 ghost use Rattle.command_model.specs.Options.{Word};
 ghost use Rattle.command_model.specs.RefusalTexts.{refusal_text};
-ghost use Rattle.zenfs_cmd.specs.Leaving.{Leaves, LeavesChanged, MayLeave};
+ghost use Rattle.zenfs_cmd.specs.Leaving.{IsKeptWithoutMemory, Leaves, LeavesChanged, LeavesTheTree, MayLeave};
 ghost use Rattle.zenfs_cmd.specs.Plans.{changes_names, changes_of};
 ghost use Rattle.zenfs_cmd.specs.Printing.{IsCutShort, IsPrinted, IsSilent, output_text};
 ghost use Rattle.zenfs_cmd.specs.Reasons.{CanBeDone, HasReason, IsUnwritten};
@@ -36,7 +36,8 @@ use zoned_device::ZonedDevice;
 /// and `delete`; the words of every other command are a bad command line.
 ///
 /// `list`, `fs-info`, `link`, `rename` and `delete` mount the image, whatever log and files it has. A change of names
-/// is judged before anything is written, and is durable once it ends well (`changed`, `now`).
+/// is judged before anything is written, and is durable once it ends well (`changed`, `now`). Where it ends in want of
+/// memory the tree is as it was (`tree_stays`).
 ///
 /// What a crash leaves is said of all commands but `mkimage` (`any_moment`). A crash within a change of names leaves
 /// the tree before it or after it. A crash within `mkfs` over an image whose every crash has a log that counts leaves
@@ -70,6 +71,10 @@ pub fn run<D: ZonedDevice, O: Sink, E: Sink>(
         → LeavesChanged (out.new ≡ out.old) D.tells c (D.image dev) (D.image result.1) }
     ensures now { result.0 ≡ status.Ok → (c : line.Command) → command_in (map string_bytes words.now) ≡ Some c → changes_names c ≡ true
         → (t : Tree) → MountsTo (D.image dev) t → (j : Image) → D.since result.1 (D.tick result.1) j → MountsTo j (apply_all (changes_of c) t) }
+
+    // A change that ends in want of memory leaves the tree, also where the image is mounted for writing by then.
+    ensures tree_stays { result.0 ≡ status.Memory → (c : line.Command) → command_in (map string_bytes words.now) ≡ Some c → changes_names c ≡ true
+        → D.tells → LeavesTheTree (D.image dev) (D.image result.1) }
 
     // Every other end has its reason, and its line and no other is said.
     ensures refused { result.0 ≢ status.Ok → (cause : Cause) × (result.0 ≡ ending cause)
@@ -135,6 +140,8 @@ fn obey<'a, D: ZonedDevice, O: Sink>(
     ensures silent { IfErr result.0 (λ cause. IsSilent cause (out.new ≡ out.old)) }
     ensures unwritten { IfErr result.0 (λ cause. IsUnwritten (command_in (map string_bytes words.now)) cause (D.tells → D.image result.1 ≡ D.image dev)) }
     ensures unchanged { changes (command_in (map string_bytes words.now)) ≡ false → D.tells → D.image result.1 ≡ D.image dev }
+    ensures tree_stays { (c : line.Command) → command_in (map string_bytes words.now) ≡ Some c → changes_names c ≡ true
+        → IfErr result.0 (λ cause. IsKeptWithoutMemory cause (D.tells → LeavesTheTree (D.image dev) (D.image result.1))) }
     ensures still_known { makes_image (command_in (map string_bytes words.now)) ≡ false → D.known dev → D.known result.1 }
     ensures any_moment { makes_image (command_in (map string_bytes words.now)) ≡ false
         → LeavesOnly D.tick D.since dev result.1 (MayLeave random (command_in (map string_bytes words.now)) (D.image dev)) }

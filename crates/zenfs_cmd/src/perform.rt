@@ -1,8 +1,9 @@
 // What each command does.
-ghost use Rattle.std.specs.Prelude.{◌≡◌, Some, false, OnOk, IfErr};
+ghost use Rattle.std.specs.Prelude.{◌≡◌, Some, true, false, OnOk, IfErr};
 ghost use Rattle.zone_image.specs.Counts.{Rose};
 ghost use Rattle.zone_image.specs.Moments.{LeavesOnly};
-ghost use Rattle.zenfs_cmd.specs.Leaving.{Leaves, MayLeave};
+ghost use Rattle.zenfs_cmd.specs.Leaving.{IsKeptWithoutMemory, Leaves, LeavesTheTree, MayLeave};
+ghost use Rattle.zenfs_cmd.specs.Plans.{changes_names};
 ghost use Rattle.zenfs_cmd.specs.Printing.{IsCutShort, IsPrinted, IsSilent, output_text};
 ghost use Rattle.zenfs_cmd.specs.Reasons.{CanBeDone, HasReason, IsUnwritten};
 ghost use Rattle.zenfs_cmd.specs.Words.{HasAuxPath, changes, makes_image, meaning_of};
@@ -36,6 +37,8 @@ pub(crate) fn perform<'a, D: ZonedDevice, O: Sink>(
     ensures silent { IfErr result.0 (λ cause. IsSilent cause (out.new ≡ out.old)) }
     ensures unwritten { IfErr result.0 (λ cause. IsUnwritten (Some (meaning_of command.entry)) cause (D.tells → D.image result.1 ≡ D.image dev)) }
     ensures unchanged { changes (Some (meaning_of command.entry)) ≡ false → D.tells → D.image result.1 ≡ D.image dev }
+    ensures tree_stays { changes_names (meaning_of command.entry) ≡ true
+        → IfErr result.0 (λ cause. IsKeptWithoutMemory cause (D.tells → LeavesTheTree (D.image dev) (D.image result.1))) }
     ensures still_known { makes_image (Some (meaning_of command.entry)) ≡ false → D.known dev → D.known result.1 }
     ensures any_moment { makes_image (Some (meaning_of command.entry)) ≡ false → LeavesOnly D.tick D.since dev result.1 (MayLeave random (Some (meaning_of command.entry)) (D.image dev)) }
 {

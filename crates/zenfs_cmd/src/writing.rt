@@ -8,7 +8,7 @@ ghost use Rattle.fs_model.specs.Check.{check};
 ghost use Rattle.fs_model.specs.CrashClauses.{shown_tree};
 ghost use Rattle.fs_model.specs.Trace.{Refines};
 ghost use Rattle.change_cover.specs.Left.{IsLeftOf};
-ghost use Rattle.zenfs_cmd.specs.Leaving.{LeftByChange};
+ghost use Rattle.zenfs_cmd.specs.Leaving.{LeavesTheTree, LeftByChange};
 ghost use Rattle.zenfs_cmd.specs.Made.{IsMade, IsPlanned};
 ghost use Rattle.zenfs_cmd.specs.Names.{command_named};
 ghost use Rattle.zenfs_cmd.specs.Plans.{action_of, changes_names, changes_of};
@@ -34,6 +34,7 @@ pub(crate) fn write_change<D: ZonedDevice>(
     ensures made { (at : Word) → OnOk result (D.tells → IsMade (command_named at change) (D.image fs.old.device) (D.image fs.new.device) fs.new.state) }
     ensures failed { IfErr result IsFailure }
     ensures cause { HasCause (D.faults fs.old.device) (D.faults fs.new.device) (IsErrOf result FsError.DevFault) }
+    ensures tree_stays { IsErrOf result FsError.NoMemory → D.tells → LeavesTheTree (D.image fs.old.device) (D.image fs.new.device) }
     ensures any_moment { (at : Word) → LeavesOnly D.tick D.since fs.old.device fs.new.device (LeftByChange (command_named at change) (D.image fs.old.device)) }
 {
     fs.sound();
@@ -61,6 +62,7 @@ fn make_change<D: ZonedDevice>(alloc: Global, fs: &mut Fs<D>, change: Change) ->
     ensures mode { fs.new.writing ≡ fs.old.writing }
     ensures goes_on { OnOk result (fs.new.stopped ≡ fs.old.stopped) }
     ensures cause { HasCause (D.faults fs.old.device) (D.faults fs.new.device) (IsErrOf result FsError.DevFault) }
+    ensures unwritten { IsErrOf result FsError.NoMemory → fs.new.device ≡ fs.old.device }
     ensures any_moment { (at : Word) → LeavesOnly D.tick D.since fs.old.device fs.new.device (λ j. fs.old.stopped ≡ false
         → IsLeftOf (D.image fs.old.device) (shown_tree (D.image fs.old.device) fs.old.state
         ∷ apply_all (changes_of (command_named at change)) (shown_tree (D.image fs.old.device) fs.old.state) ∷ []) j) }

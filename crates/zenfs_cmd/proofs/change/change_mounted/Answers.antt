@@ -13,6 +13,8 @@ use Rattle.zenfs_cmd.specs.Reasons.{IsJudgement}
 use Rattle.zenfs_cmd.specs.Words.{command_asked}
 use Rattle.zenfs_cmd.proofs.Judgements.{judged_right, judged_so, judged_wrong, refused_as_judged}
 use Rattle.zenfs_cmd.proofs.ReasonLaws.{asked_changes, failed_by, judged_by, name_refused_by, named_changes}
+use Rattle.zenfs_cmd.specs.Leaving.{LeavesTheTree}
+use Rattle.zenfs_cmd.proofs.TreeStays.{kept_as_failed}
 use Rattle.zenfs_cmd.proofs.change.change_mounted.Goals as goal
 
 pub returns-in-Err-clause-refused : goal.returns-in-Err-clause-refused
@@ -66,3 +68,10 @@ returns-in-Err-write_change-clause-any_moment g c = λ at.
     let dev = c.args.fs.now.device in
     subst (λ (k : Command). LeavesOnly D.tick D.since dev c.write_change.new.fs.device (LeftByChange k (D.image dev))) (c.in-Ok.ensures.read at)
     (c.in-Err-write_change.ensures.any_moment at)
+
+pub returns-in-Err-write_change-clause-tree_stays : goal.returns-in-Err-write_change-clause-tree_stays
+returns-in-Err-write_change-clause-tree_stays g c =
+    let D = g.D.ZonedDevice in
+    let kept = D.tells → LeavesTheTree (D.image c.args.fs.now.device) (D.image c.write_change.new.fs.device) in
+    kept_as_failed c.in-Err-write_change.error c.failure_of.result kept c.failure_of.ensures
+    (λ is. c.in-Err-write_change.ensures.tree_stays (ap (λ (e : FsError). Err e) is))

@@ -3,6 +3,7 @@ use Rattle.fs_core.specs.declared.check.Change.{Change}
 use Rattle.zenfs_cmd.specs.Names.{command_named}
 use Rattle.zenfs_cmd.specs.Plans.{changes_names}
 use Rattle.zenfs_cmd.proofs.ChangeEnds.{goes_on_after}
+use Rattle.zenfs_cmd.proofs.TreeStays.{wants_unwritten}
 use Rattle.zenfs_cmd.proofs.writing.make_change.Goals as goal
 
 pub unreachable-requires : goal.unreachable-requires
@@ -28,3 +29,12 @@ returns-in-Rename-clause-any_moment g c = rw c.in-Rename.is (λ at. c.rename.ens
 
 pub returns-in-Unlink-clause-any_moment : goal.returns-in-Unlink-clause-any_moment
 returns-in-Unlink-clause-any_moment g c = rw c.in-Unlink.is (λ at. c.delete.ensures.any_moment)
+
+pub returns-in-Link-clause-unwritten : goal.returns-in-Link-clause-unwritten
+returns-in-Link-clause-unwritten g c = λ wanting. (c.link.ensures.unwritten (wants_unwritten c.link.result wanting)).1
+
+pub returns-in-Rename-clause-unwritten : goal.returns-in-Rename-clause-unwritten
+returns-in-Rename-clause-unwritten g c = λ wanting. (c.rename.ensures.unwritten (wants_unwritten c.rename.result wanting)).1
+
+pub returns-in-Unlink-clause-unwritten : goal.returns-in-Unlink-clause-unwritten
+returns-in-Unlink-clause-unwritten g c = λ wanting. (c.delete.ensures.unwritten (wants_unwritten c.delete.result wanting)).1

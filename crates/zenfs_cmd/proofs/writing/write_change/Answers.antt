@@ -9,7 +9,25 @@ use Rattle.zenfs_cmd.specs.Plans.{action_of}
 use Rattle.zenfs_cmd.proofs.ChangedTrees.{change_is_made, change_leaves, mount_leaves}
 use Rattle.zenfs_cmd.proofs.Judgements.{made_as_planned, mount_is_allowed, never_refused_behind, only_fails}
 use Rattle.zenfs_cmd.proofs.Standing.{standing_mounts}
+use Rattle.zenfs_cmd.proofs.TreeStays.{same_tree, same_tree_behind, wants_unwritten}
 use Rattle.zenfs_cmd.proofs.writing.write_change.Goals as goal
+
+pub returns-in-Err-clause-tree_stays : goal.returns-in-Err-clause-tree_stays
+returns-in-Err-clause-tree_stays g c = λ wanting told.
+    let D = g.D.ZonedDevice in
+    let old = c.args.fs.now.device in
+    let same : c.mount_write.new.self.device ≡ old = (c.in-Err.ensures.unwritten (wants_unwritten (Err c.in-Err.error) wanting)).1 in
+    same_tree (D.image old) (D.image c.mount_write.new.self.device) (ap D.image same)
+
+pub returns-in-Err-make_change-clause-tree_stays : goal.returns-in-Err-make_change-clause-tree_stays
+returns-in-Err-make_change-clause-tree_stays g c = λ wanting told.
+    let D = g.D.ZonedDevice in
+    let i = D.image c.args.fs.now.device in
+    let mid = c.mount_write.new.self in
+    let goes : mid.stopped ≡ false = c.in-Ok.ensures.stopped ∙ c.requires.goes_on in
+    let stands = c.stands.ensures c.in-Ok.ensures.writes goes told in
+    same_tree_behind i (D.image mid.device) (D.image c.make_change.new.fs.device) (ap D.image (c.in-Err-make_change.ensures.unwritten wanting))
+    (standing_mounts i (D.image mid.device) mid.state stands (c.in-Ok.ensures.tree told)) (c.in-Ok.ensures.tree told)
 
 pub returns-in-Err-clause-failed : goal.returns-in-Err-clause-failed
 returns-in-Err-clause-failed g c =
