@@ -10,3 +10,4 @@ pub mod RecordLaws
 pub mod Roundtrip
 pub mod Valid
 pub mod Lengths
+pub mod NameSetLaws

@@ -1,5 +1,5 @@
 -- The fields of an entry that were read so far, kept by kind.
-use Rattle.std.specs.Prelude.{ℕ, Bool, true, false, List, [], ◌∷◌, ◌++◌, length, Option, Some, None, is_some, Result, Ok, Err, ◌==◌, if◌then◌else◌}
+use Rattle.std.specs.Prelude.{◌≡◌, ⊤, ℕ, Bool, true, false, List, [], ◌∷◌, ◌++◌, length, Option, Some, None, is_some, Result, Ok, Err, ◌==◌, if◌then◌else◌}
 use Rattle.std.specs.List.{list_any}
 use Rattle.std.specs.Option.{ok_or}
 use Rattle.std.specs.Str.{bytes_eq}
@@ -36,6 +36,11 @@ with_field (Time n) d = record d { time = Some n }
 with_field (Active n) d = record d { active = Some n }
 with_field Sparse d = record d { sparse = true }
 with_field (Linked name) d = record d { names = d.names ++ name ∷ [] }
+
+-- a name has this text
+abbrev pub IsTextOf : Field → List ℕ → Type 0
+IsTextOf (Linked name) text = name ≡ text
+IsTextOf _ text = ⊤
 
 -- a field with this tag that may stand once is there
 abbrev pub has_drafted_tag : ℕ → EntryDraft → Bool

@@ -4,3 +4,4 @@ pub mod Length
 pub mod BoundedVarint
 pub mod Draft
 pub mod DraftedField
+pub mod NameSets

@@ -2,16 +2,17 @@
 
 ghost use Rattle.std.specs.Prelude.{◌≡◌, OnOk};
 ghost use Rattle.record_model.specs.Encoding.{kind_tag};
-ghost use Rattle.record_codec.specs.Draft.{empty_draft, with_field, has_drafted_tag, has_drafted_name, finished, missing, required};
+ghost use Rattle.record_codec.specs.Draft.{IsTextOf, empty_draft, with_field, has_drafted_tag, has_drafted_name, finished, missing, required};
 ghost use Rattle.record_codec.specs.Outcome.{Returns};
 
-use record_model::{DecodeFault, Extent, Extents, Field, FieldKind, FileEntry, Name, Names, Why};
+use crate::read_names::ReadNames;
+use record_model::{DecodeFault, Extent, Extents, Field, FieldKind, FileEntry, Why};
 use std::alloc::{AllocError, Global};
 use std::marker::Model;
 
 /// The fields of an entry that were read so far.
 #[derive(Drop)]
-pub(crate) struct Draft {
+pub(crate) struct Draft<'a> {
     id: Option<u64>,
     size: Option<u64>,
     hint: Option<u32>,
@@ -19,10 +20,10 @@ pub(crate) struct Draft {
     active: Option<u64>,
     sparse: bool,
     extents: Vec<Extent>,
-    names: Vec<Name>,
+    names: ReadNames<'a>,
 }
 
-impl Model for Draft {
+impl<'a> Model for Draft<'a> {
     ghost use Rattle.record_codec.specs.Draft.{EntryDraft};
 
     ghost Value = { EntryDraft };
@@ -35,13 +36,13 @@ impl Model for Draft {
       active = d.active;
       sparse = d.sparse;
       extents = d.extents.items;
-      names = d.names.items;
+      names = d.names;
     } };
 }
 
-impl Draft {
+impl<'a> Draft<'a> {
     /// No fields.
-    pub(crate) fn new(alloc: Global) -> Draft
+    pub(crate) fn new(alloc: Global) -> Draft<'a>
         ensures { result ≡ empty_draft }
     {
         Draft {
@@ -52,7 +53,7 @@ impl Draft {
             active: None,
             sparse: false,
             extents: Vec::new(alloc),
-            names: Vec::new(alloc),
+            names: ReadNames::new(alloc),
         }
     }
 
@@ -76,11 +77,12 @@ impl Draft {
     pub(crate) fn has_name(&self, name: &[u8]) -> bool
         ensures { result ≡ has_drafted_name name.now self.now }
     {
-        self.names.iter().any(|other| name == other.items())
+        self.names.has(name)
     }
 
-    /// Takes a field. Where memory is wanting, the field is lost.
-    pub(crate) fn add(&mut self, field: Field) -> Result<(), AllocError>
+    /// Takes a field, of which a name has this text. Where memory is wanting, the field is lost.
+    pub(crate) fn add(&mut self, field: Field, text: &'a [u8]) -> Result<(), AllocError>
+        requires { IsTextOf field text.now }
         ensures { OnOk result (self.new ≡ with_field field self.old) }
     {
         match field {
@@ -91,7 +93,7 @@ impl Draft {
             Field::Time(time) => self.time = Some(time),
             Field::Active(active) => self.active = Some(active),
             Field::Sparse => self.sparse = true,
-            Field::Linked(name) => self.names.push(name)?,
+            Field::Linked(name) => self.names.add(name, text)?,
         }
         Ok(())
     }
@@ -99,7 +101,7 @@ impl Draft {
     /// The entry that has these fields, or the least tag that is wanting, at the entry's place.
     #[tactic(auto, unfolding(crate::specs::Draft::finished))]
     pub(crate) fn finish(self, at: u32) -> Result<FileEntry, DecodeFault>
-        ensures { Returns (λ e. e) result (finished at self) }
+        ensures { Returns (λ e. e) result (finished at self.entry) }
     {
         let id = required(at, 1, self.id)?;
         let size = required(at, 3, self.size)?;
@@ -117,7 +119,7 @@ impl Draft {
             active,
             sparse: self.sparse,
             extents: Extents::from_vec(self.extents),
-            names: Names::from_vec(self.names),
+            names: self.names.into_names(),
         })
     }
 }

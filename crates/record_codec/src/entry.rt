@@ -57,7 +57,7 @@ fn drafted_entry_at(alloc: Global, c: Cursor<'_>) -> Result<FileEntry, DecodeErr
 }
 
 /// The fields to the end of the bytes.
-fn fields_at(alloc: Global, start: Cursor<'_>) -> Result<Draft, DecodeError>
+fn fields_at<'a>(alloc: Global, start: Cursor<'a>) -> Result<Draft<'a>, DecodeError>
     ensures { Gives result
         (drafted_fields_at (length start.entry.rest.now) empty_draft (place start.entry)) }
 {
@@ -71,13 +71,17 @@ fn fields_at(alloc: Global, start: Cursor<'_>) -> Result<Draft, DecodeError>
 
 /// Reads one field more, and tells the place behind it.
 #[tactic(auto, unfolding(crate::specs::DraftedField::drafted_step))]
-fn add_field<'a>(alloc: Global, draft: &mut Draft, c: Cursor<'a>) -> Result<Cursor<'a>, DecodeError>
+fn add_field<'a>(
+    alloc: Global,
+    draft: &mut Draft<'a>,
+    c: Cursor<'a>,
+) -> Result<Cursor<'a>, DecodeError>
     ensures value { GivesBy (λ x. (draft.new, place x)) result (drafted_step draft.old (place c.entry)) }
     ensures forward { IfOk result (λ x. length x.rest.now < length c.entry.rest.now) }
 {
     match field_at(alloc, draft, c) {
-        Ok((field, after)) => {
-            draft.add(field)?;
+        Ok((field, text, after)) => {
+            draft.add(field, text)?;
             Ok(after)
         }
         Err(FieldError::Bad(why)) => Err(DecodeError::Bad(DecodeFault { at: c.at, why })),

@@ -5,7 +5,7 @@ ghost use Rattle.std.specs.Int.{w32, w64};
 ghost use Rattle.record_model.specs.FieldDecoding.{once, single, ranged, piece_at, name_at, value_at};
 ghost use Rattle.record_model.specs.Encoding.{kind_tag};
 ghost use Rattle.record_model.specs.Name.{is_name};
-ghost use Rattle.record_codec.specs.Draft.{has_drafted_tag, has_drafted_name};
+ghost use Rattle.record_codec.specs.Draft.{IsTextOf, has_drafted_tag, has_drafted_name};
 ghost use Rattle.record_codec.specs.DraftedField.{drafted_field_at};
 ghost use Rattle.record_codec.specs.Outcome.{Returns, GivesField};
 ghost use Rattle.record_codec.specs.Place.{place};
@@ -23,15 +23,16 @@ const MAX_HINT: u32 = 5;
 /// The bytes of an extent's value.
 const EXTENT_BYTES: usize = 16;
 
-/// The field here, where these fields stand before it, and the place behind it.
+/// The field here, where these fields stand before it, with the text of a name, and the place behind it.
 #[tactic(auto, unfolding(crate::specs::DraftedField::drafted_field_at))]
 pub(crate) fn field_at<'a>(
     alloc: Global,
-    seen: &Draft,
+    seen: &Draft<'_>,
     c: Cursor<'a>,
-) -> Result<(Field, Cursor<'a>), FieldError>
-    ensures value { GivesField (λ x. (x.0, place x.1)) result (drafted_field_at seen.now (place c.entry)) }
-    ensures forward { IfOk result (λ x. length x.1.rest.now < length c.entry.rest.now) }
+) -> Result<(Field, &'a [u8], Cursor<'a>), FieldError>
+    ensures value { GivesField (λ x. (x.0, place x.2)) result (drafted_field_at seen.now (place c.entry)) }
+    ensures text { IfOk result (λ x. IsTextOf x.0 x.1.now) }
+    ensures forward { IfOk result (λ x. length x.2.rest.now < length c.entry.rest.now) }
 {
     let (tag, c) = u32_at(c)?;
     match FieldKind::of_tag(tag) {
@@ -40,54 +41,59 @@ pub(crate) fn field_at<'a>(
     }
 }
 
-/// The value here of a field of this kind.
+/// The value here of a field of this kind, with the text of a name, and none for another.
 fn value_at<'a>(
     alloc: Global,
     kind: FieldKind,
-    seen: &Draft,
+    seen: &Draft<'_>,
     c: Cursor<'a>,
-) -> Result<(Field, Cursor<'a>), FieldError>
-    ensures value { GivesField (λ x. (x.0, place x.1)) result
+) -> Result<(Field, &'a [u8], Cursor<'a>), FieldError>
+    ensures value { GivesField (λ x. (x.0, place x.2)) result
         (value_at kind (λ tag. has_drafted_tag tag seen.now) (λ name. has_drafted_name name seen.now) (place c.entry)) }
-    ensures forward { IfOk result (λ x. length x.1.rest.now ≤ length c.entry.rest.now) }
+    ensures text { IfOk result (λ x. IsTextOf x.0 x.1.now) }
+    ensures forward { IfOk result (λ x. length x.2.rest.now ≤ length c.entry.rest.now) }
 {
     match kind {
         FieldKind::Id => {
             let (id, c) = single_u64(kind, seen, c)?;
             ranged(id <= MAX_ID)?;
-            Ok((Field::Id(id), c))
+            Ok((Field::Id(id), &[], c))
         }
         FieldKind::Size => {
             let (size, c) = single_u64(kind, seen, c)?;
-            Ok((Field::Size(size), c))
+            Ok((Field::Size(size), &[], c))
         }
         FieldKind::Hint => {
             let (hint, c) = single_u32(kind, seen, c)?;
             ranged(hint <= MAX_HINT)?;
-            Ok((Field::Hint(hint), c))
+            Ok((Field::Hint(hint), &[], c))
         }
         FieldKind::Piece => {
             let (extent, c) = extent_at(c)?;
-            Ok((Field::Piece(extent), c))
+            Ok((Field::Piece(extent), &[], c))
         }
         FieldKind::Time => {
             let (time, c) = single_u64(kind, seen, c)?;
-            Ok((Field::Time(time), c))
+            Ok((Field::Time(time), &[], c))
         }
         FieldKind::Active => {
             let (active, c) = single_u64(kind, seen, c)?;
-            Ok((Field::Active(active), c))
+            Ok((Field::Active(active), &[], c))
         }
         FieldKind::Sparse => {
             once(kind, seen)?;
-            Ok((Field::Sparse, c))
+            Ok((Field::Sparse, &[], c))
         }
         FieldKind::Linked => name_at(alloc, seen, c),
     }
 }
 
 /// The 64-bit number here, where no field of its kind stands before it.
-fn single_u64<'a>(kind: FieldKind, seen: &Draft, c: Cursor<'a>) -> Result<(u64, Cursor<'a>), Why>
+fn single_u64<'a>(
+    kind: FieldKind,
+    seen: &Draft<'_>,
+    c: Cursor<'a>,
+) -> Result<(u64, Cursor<'a>), Why>
     ensures value { Returns (λ x. (x.0, place x.1)) result (single w64 (kind_tag kind) (has_drafted_tag (kind_tag kind) seen.now) (place c.entry)) }
     ensures forward { IfOk result (λ x. length x.1.rest.now ≤ length c.entry.rest.now) }
 {
@@ -97,7 +103,11 @@ fn single_u64<'a>(kind: FieldKind, seen: &Draft, c: Cursor<'a>) -> Result<(u64, 
 }
 
 /// The 32-bit number here, where no field of its kind stands before it.
-fn single_u32<'a>(kind: FieldKind, seen: &Draft, c: Cursor<'a>) -> Result<(u32, Cursor<'a>), Why>
+fn single_u32<'a>(
+    kind: FieldKind,
+    seen: &Draft<'_>,
+    c: Cursor<'a>,
+) -> Result<(u32, Cursor<'a>), Why>
     ensures value { Returns (λ x. (x.0, place x.1)) result (single w32 (kind_tag kind) (has_drafted_tag (kind_tag kind) seen.now) (place c.entry)) }
     ensures forward { IfOk result (λ x. length x.1.rest.now ≤ length c.entry.rest.now) }
 {
@@ -107,7 +117,7 @@ fn single_u32<'a>(kind: FieldKind, seen: &Draft, c: Cursor<'a>) -> Result<(u32, 
 }
 
 /// Refuses a field of a kind that is there already.
-fn once(kind: FieldKind, seen: &Draft) -> Result<(), Why>
+fn once(kind: FieldKind, seen: &Draft<'_>) -> Result<(), Why>
     ensures { Returns (λ _. kind_tag kind) result (once (kind_tag kind) (has_drafted_tag (kind_tag kind) seen.now)) }
 {
     if seen.has(kind) {
@@ -144,22 +154,23 @@ fn extent_at(c: Cursor<'_>) -> Result<(Extent, Cursor<'_>), Why>
     Ok((Extent { start, len }, c))
 }
 
-/// The name here, where it doesn't stand among these fields.
+/// The name here with its text, where it doesn't stand among these fields.
 fn name_at<'a>(
     alloc: Global,
-    seen: &Draft,
+    seen: &Draft<'_>,
     c: Cursor<'a>,
-) -> Result<(Field, Cursor<'a>), FieldError>
-    ensures value { GivesField (λ x. (x.0, place x.1)) result
+) -> Result<(Field, &'a [u8], Cursor<'a>), FieldError>
+    ensures value { GivesField (λ x. (x.0, place x.2)) result
         (name_at (λ name. has_drafted_name name seen.now) (place c.entry)) }
-    ensures forward { IfOk result (λ x. length x.1.rest.now ≤ length c.entry.rest.now) }
+    ensures text { IfOk result (λ x. IsTextOf x.0 x.1.now) }
+    ensures forward { IfOk result (λ x. length x.2.rest.now ≤ length c.entry.rest.now) }
 {
     let (bytes, c) = slice_at(c)?;
     if seen.has_name(bytes) {
         return Err(FieldError::Bad(Why::Twice(FieldKind::Linked.tag())));
     }
     let name = name_of(alloc, bytes)?;
-    Ok((Field::Linked(name), c))
+    Ok((Field::Linked(name), bytes, c))
 }
 
 /// The name that these bytes are.

@@ -9,6 +9,7 @@ mod entry;
 mod error;
 mod field;
 mod length;
+mod read_names;
 mod value;
 mod varint;
 
@@ -20,6 +21,3 @@ pub use record_model::{
     DecodeFault, Extent, Extents, FileEntry, Files, MAX_ID, NO_ACTIVE, Name, NameError, Names,
     Payload, Record, Why,
 };
-
-#[cfg(test)]
-mod tests;
