@@ -15,3 +15,4 @@ pub mod PlaceLaws
 pub mod RepeatLaws
 pub mod SettingLaws
 pub mod TakenLaws
+pub mod HalfLaws

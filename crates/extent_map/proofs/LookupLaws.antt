@@ -1,11 +1,10 @@
--- Looking up by a search, by the least number, and within the extents of a file.
-use Rattle.std.proofs.Common.{◌≡◌, ℕ, ◌+◌, ◌-◌, ◌<◌, Bool, true, false, cond, Option, Some, None, Ok, Err, List, [], ◌∷◌, ◌++◌, drop, get_or, length, nat_lt, refl, ap, sym, ◌∙◌, arith, add-one, drop-cons}
+-- Looking up the least number, and within the extents of a file.
+use Rattle.std.proofs.Common.{◌≡◌, ℕ, ◌+◌, ◌-◌, Bool, true, false, cond, Option, Some, None, Ok, Err, List, [], ◌∷◌, ◌++◌, nat_lt, refl, ap, ◌∙◌, arith}
 use Rattle.std.proofs.lemmas.Bool.{ltb-false}
 use Rattle.std.proofs.lemmas.List.Sums.{sum_by-cons}
 use Rattle.record_model.specs.declared.types.Extent.{Extent}
 use Rattle.log_model.specs.FileTable.{size_of}
-use Rattle.fs_model.specs.FsState.{TableRow}
-use Rattle.extent_map.specs.Lookups.{lower, at_least, least_id_from, rest_of, rest_in}
+use Rattle.extent_map.specs.Lookups.{lower, rest_of, rest_in}
 
 -- lower numbers in any grouping
 pub lower_assoc : (a b c : Option ℕ) → lower (lower a b) c ≡ lower a (lower b c)
@@ -13,13 +12,6 @@ lower_assoc None b c = refl
 lower_assoc (Some a) None c = refl
 lower_assoc (Some a) (Some b) None = refl
 lower_assoc (Some a) (Some b) (Some c) = ap Some (omega arith)
-
--- one number more
-pub least_more : (from i : ℕ) (rows : List TableRow) (r : TableRow) (best all : Option ℕ) → i < length rows → r ≡ get_or rows i r
-    → lower best (least_id_from from (drop i rows)) ≡ all → lower (lower best (at_least from r.entry.id)) (least_id_from from (drop (i + 1) rows)) ≡ all
-least_more from i rows r best all lt is h =
-    lower_assoc best (at_least from r.entry.id) (least_id_from from (drop (i + 1) rows))
-    ∙ ap (lower best) (sym (rw (drop-cons rows i r lt, ← is, add-one) refl)) ∙ h
 
 -- ---- within the extents of a file
 

@@ -1,31 +1,19 @@
 -- A name stands in two entries where one of an entry's names is among those of the entries behind it.
-use Rattle.std.specs.Prelude.{◌≡◌, ℕ, zero, suc, ◌+◌, ◌-◌, ◌<◌, Bool, true, false, cond, ◌||◌, List, [], ◌∷◌, length, refl}
+use Rattle.std.specs.Prelude.{◌≡◌, ℕ, zero, suc, ◌+◌, ◌-◌, ◌<◌, Bool, true, false, ◌||◌, List, [], ◌∷◌, length, refl}
 use Rattle.std.proofs.Common.{sym, ◌∙◌, ap, arith, Bor, take, drop, get_or, drop-cons}
 use Rattle.std.specs.BTreeSet.{BTreeSet, Updates}
 use Rattle.std.specs.Cmp.Lexicographic.{slice_cmp}
-use Rattle.std.specs.Ordering.{nat_cmp, is_eq}
+use Rattle.std.specs.Ordering.{nat_cmp}
 use Rattle.std.specs.List.{list_any}
 use Rattle.std.specs.Str.{bytes_eq}
 use Rattle.std.proofs.lemmas.List.Folds.{list_any_more}
-use Rattle.std.proofs.lemmas.Map.Text.{is_eq-slice_cmp}
 use Rattle.record_model.specs.declared.types.FileEntry.{FileEntry}
 use Rattle.log_model.specs.FileTable.{Table, is_among, shares_name, repeats_name}
 use Rattle.log_model.proofs.ReplayLaws.{bytes_eq_sym}
-use Rattle.extent_map.specs.NameSets.{has_name}
+use Rattle.record_codec.specs.NameSets.{has_name}
+use Rattle.record_codec.proofs.NameSetLaws.{has_more}
 
 -- ---- a name more in a set
-
--- the one, or those that were there
-one_or : (b c : Bool) → cond b true c ≡ (b || c)
-one_or true c = refl
-one_or false c = refl
-
--- a set with a name more
-pub has_more : (seen more : BTreeSet (Bor (List ℕ))) (new : Bor (List ℕ)) (name : List ℕ) → Updates (λ x y. slice_cmp nat_cmp x.now y.now) seen more new true
-    → has_name more name ≡ (bytes_eq new.now name || has_name seen name)
-has_more seen more new name updates =
-    let asked : Bor (List ℕ) = record { ref_ptr = (0, 0); now = name } in
-    updates.0 asked ∙ one_or (is_eq (slice_cmp nat_cmp new.now name)) (has_name seen name) ∙ ap (λ b. b || has_name seen name) (is_eq-slice_cmp new.now name)
 
 -- one of three, in another order
 or_moved : (a b c : Bool) → (a || (b || c)) ≡ ((b || a) || c)

@@ -4,7 +4,6 @@ pub mod Changes
 pub mod Creating
 pub mod IdOrder
 pub mod Lookups
-pub mod NameSets
 pub mod Naming
 pub mod Records
 pub mod RowsAfter

@@ -1,5 +1,6 @@
 -- What is looked up in a table.
 use Rattle.std.specs.Prelude.{ℕ, ◌+◌, ◌-◌, ◌^◌, ◌<◌, Bool, false, Option, Some, None, Result, Ok, Err, List, [], ◌∷◌, ◌++◌, min, nat_lt, if◌then◌else◌, option_map, All}
+use Rattle.std.specs.List.{slice_get}
 use Rattle.std.specs.Option.{option_and_then, option_map_or}
 use Rattle.std.specs.Result.{result_ok}
 use Rattle.record_model.specs.declared.types.Extent.{Extent}
@@ -23,6 +24,10 @@ at_least from id = if nat_lt id from then None else Some id
 abbrev pub least_id_from : ℕ → List TableRow → Option ℕ
 least_id_from from [] = None
 least_id_from from (r ∷ rs) = lower (at_least from r.entry.id) (least_id_from from rs)
+
+-- the id of the row that stands there
+abbrev pub id_at : ℕ → List TableRow → Option ℕ
+id_at at rows = option_map (λ r. r.entry.id) (slice_get rows at)
 
 -- all extents of a file, in its order
 abbrev pub extents_of : TableRow → List Extent

@@ -10,9 +10,9 @@ ghost use Rattle.fs_model.specs.FsState.{greatest_id};
 ghost use Rattle.extent_map.specs.Applying.{AreRecorded, AreSettled, IsMade, IsRefused, snapshot_table};
 ghost use Rattle.extent_map.specs.Records.{recorded_of};
 
-use crate::change::index_of;
 use crate::error::ApplyError;
 use crate::lookups::row_of;
+use crate::place::index_of;
 use crate::row::Row;
 use crate::setting::{grow_row, put_new, put_whole};
 use crate::snapshot::rows_of_snapshot;
@@ -118,6 +118,7 @@ fn update(alloc: Global, rows: &mut Vec<Row>, entry: &FileEntry) -> Result<(), A
 /// Takes a name from its file.
 fn delete(rows: &mut Vec<Row>, id: u64, name: &Name) -> Result<(), ApplyError>
     requires recorded { AreRecorded rows.old.items }
+    requires ids { IdsRise 0 (recorded_of rows.old.items) }
     ensures made { OnOk result (after_record (records.Deletion id name.now) (recorded_of rows.old.items) ≡ Ok (recorded_of rows.new.items)) }
     ensures recorded { OnOk result (AreRecorded rows.new.items) }
     ensures refused { IfErr result (IsRefused (after_record (records.Deletion id name.now) (recorded_of rows.old.items))) }

@@ -1,15 +1,18 @@
 //! Changes of one file of the table.
 
-ghost use Rattle.std.specs.Prelude.{◌≡◌, ◌+◌, ◌^◌, ◌<◌, ◌≤◌, length, slice_index_or, IfSome, IfNone, None, IsSome, Some, OnOk, IfOk, vec_capacity};
+ghost use Rattle.std.specs.Prelude.{◌≡◌, ◌+◌, ◌^◌, ◌<◌, ◌≤◌, length, IsSome, Some, OnOk, IfOk, vec_capacity};
 ghost use Rattle.std.specs.Option.{ForSome};
 ghost use Rattle.log_model.specs.FileTable.{size_of};
+ghost use Rattle.log_model.specs.TableLaws.{IdsRise};
 ghost use Rattle.fs_model.specs.FileSteps.{moved, note, shown_row};
 ghost use Rattle.extent_map.specs.Lookups.{extents_of};
 ghost use Rattle.extent_map.specs.Spare.{extents_more, spare_at};
-ghost use Rattle.fs_model.specs.FsState.{TableRow, on_row, row_of};
+ghost use Rattle.fs_model.specs.FsState.{on_row, row_of};
 ghost use Rattle.extent_map.specs.Changes.{recorded_row};
+ghost use Rattle.extent_map.specs.Records.{recorded_of};
 
 use crate::lookups::row_of;
+use crate::place::index_of;
 use crate::room::{Room, room_for_name, room_for_one};
 use crate::row::Row;
 use crate::table::FileTable;
@@ -91,6 +94,7 @@ impl FileTable {
 
 /// Room for one more extent of a file, and none to speak of where it isn't there.
 fn room_in(alloc: Global, rows: &[Row], id: u64) -> Result<Room, AllocError>
+    requires { IdsRise 0 (recorded_of rows.now) }
     ensures id { IfOk result (λ room. room.id ≡ id) }
     ensures more { IfOk result (λ room. ForSome (row_of id rows.now) (λ r. 1 ≤ extents_more room r)) }
 {
@@ -102,25 +106,11 @@ fn room_in(alloc: Global, rows: &[Row], id: u64) -> Result<Room, AllocError>
 
 /// Room for the names of a file and one more, and none where the file isn't there.
 fn names_room(alloc: Global, rows: &[Row], id: u64) -> Result<Vec<Name>, AllocError>
+    requires { IdsRise 0 (recorded_of rows.now) }
     ensures { IfOk result (λ room. ForSome (row_of id rows.now) (λ r. length r.entry.names < vec_capacity room)) }
 {
     match row_of(rows, id) {
         None => Ok(Vec::new(alloc)),
         Some(row) => room_for_name(alloc, row.entry().names.items()),
     }
-}
-
-/// Where the row of an id stands.
-pub(crate) fn index_of(rows: &[Row], id: u64) -> Option<usize>
-    ensures absent { IfNone result (row_of id rows.now ≡ None) }
-    ensures within { IfSome result (λ at. at < length rows.now) }
-    ensures row { IfSome result (λ at. (d : TableRow) → row_of id rows.now ≡ Some (slice_index_or rows.now at d)) }
-    ensures id { IfSome result (λ at. (d : TableRow) → (slice_index_or rows.now at d).entry.id ≡ id) }
-{
-    for (i, row) in rows.iter().enumerate() {
-        if row.id() == id {
-            return Some(i);
-        }
-    }
-    None
 }

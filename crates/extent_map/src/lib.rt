@@ -36,6 +36,3 @@ pub use error::{ApplyError, Moved, TableError};
 pub use fs_model::Move;
 pub use record_model::{Extent, Extents, FileEntry, Files, Name, Names, Record};
 pub use table::FileTable;
-
-#[cfg(test)]
-mod tests;

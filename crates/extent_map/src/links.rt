@@ -10,10 +10,10 @@ ghost use Rattle.extent_map.specs.declared.error.Moved.TheVariants as moves;
 ghost use Rattle.extent_map.specs.Records.{recorded_of};
 ghost use Rattle.extent_map.specs.Naming.{linked_id, linked_rows, lost_by, lost_extents, moved_id, unlinked_id};
 
-use crate::change::index_of;
 use crate::error::{Moved, TableError};
 use crate::lookups::row_named;
 use crate::name_lists::keeps_name;
+use crate::place::index_of;
 use crate::row::Row;
 use crate::table::FileTable;
 use crate::taken::take_names;

@@ -1,9 +1,12 @@
 //! What is looked up in the table.
 
 ghost use Rattle.std.specs.Prelude.{◌≡◌, option_map, option_copied};
+ghost use Rattle.log_model.specs.TableLaws.{IdsRise};
 ghost use Rattle.fs_model.specs.FsState.{row_of, row_named};
-ghost use Rattle.extent_map.specs.Lookups.{id_named, least_id_from, lower, at_least};
+ghost use Rattle.extent_map.specs.Lookups.{id_at, id_named, least_id_from};
+ghost use Rattle.extent_map.specs.Records.{recorded_of};
 
+use crate::place::{index_of, place_of};
 use crate::row::Row;
 use crate::table::FileTable;
 use record_model::{Extent, FileEntry, Name};
@@ -34,11 +37,8 @@ impl FileTable {
     pub fn next_id(&self, from: u64) -> Option<u64>
         ensures { result ≡ least_id_from from self.now.rows }
     {
-        let mut least = None;
-        for row in &self.rows {
-            least = lower(least, at_least(from, row.id()));
-        }
-        least
+        let at = place_of(&self.rows, from);
+        id_at(&self.rows, at)
     }
 
     /// The extents of a file that aren't recorded, in the file's order; `None` exactly where the file
@@ -57,34 +57,26 @@ impl FileTable {
     }
 }
 
-/// The number, if it isn't below the other.
-fn at_least(from: u64, id: u64) -> Option<u64>
-    ensures { result ≡ at_least from id }
+/// The id of the row that stands there, if one does.
+fn id_at(rows: &[Row], at: usize) -> Option<u64>
+    ensures { result ≡ id_at at rows.now }
 {
-    if id < from { None } else { Some(id) }
-}
-
-/// The lower of two numbers, as far as they are there.
-fn lower(a: Option<u64>, b: Option<u64>) -> Option<u64>
-    ensures { result ≡ lower a b }
-{
-    match (a, b) {
-        (None, b) => b,
-        (Some(a), None) => Some(a),
-        (Some(a), Some(b)) => Some(a.min(b)),
+    if at < rows.len() {
+        Some(rows[at].id())
+    } else {
+        None
     }
 }
 
 /// The row of an id.
 pub(crate) fn row_of(rows: &[Row], id: u64) -> Option<&Row>
+    requires { IdsRise 0 (recorded_of rows.now) }
     ensures { option_copied result ≡ row_of id rows.now }
 {
-    for row in rows {
-        if row.id() == id {
-            return Some(row);
-        }
+    match index_of(rows, id) {
+        None => None,
+        Some(at) => Some(&rows[at]),
     }
-    None
 }
 
 /// The row of a name.

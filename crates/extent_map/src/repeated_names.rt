@@ -3,7 +3,7 @@
 ghost use Rattle.std.specs.Prelude.{◌≡◌, ℕ, ◌||◌, List, IfOk, OnOk};
 ghost use Rattle.std.specs.List.{list_any};
 ghost use Rattle.log_model.specs.FileTable.{is_among, repeats_name};
-ghost use Rattle.extent_map.specs.NameSets.{has_name};
+ghost use Rattle.record_codec.specs.NameSets.{has_name};
 
 use record_model::{FileEntry, Name};
 use std::alloc::{AllocError, Global};

@@ -31,6 +31,7 @@ pub(crate) fn put_new(
     entry: &FileEntry,
 ) -> Result<(), ApplyError>
     requires recorded { AreRecorded rows.old.items }
+    requires ids { IdsRise 0 (recorded_of rows.old.items) }
     requires writable { IsWritable entry.now }
     requires absent { row_of entry.now.id rows.old.items ≡ None }
     ensures made { OnOk result (unless_broken (not (has_right_size entry.now)) 5 (set_entry entry.now (recorded_of rows.old.items)) ≡ Ok (recorded_of rows.new.items)) }
@@ -112,6 +113,7 @@ pub(crate) fn grow_row(
 fn set_row(rows: &mut Vec<Row>, row: Row)
     requires room { length rows.old.items < vec_capacity rows.old }
     requires recorded { AreRecorded rows.old.items }
+    requires ids { IdsRise 0 (recorded_of rows.old.items) }
     requires settled { row.unrecorded ≡ [] }
     ensures made { recorded_of rows.new.items ≡ with_entry row.entry (take_names row.entry.names (recorded_of rows.old.items)) }
     ensures recorded { AreRecorded rows.new.items }

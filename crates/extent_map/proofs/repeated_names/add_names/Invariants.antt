@@ -1,6 +1,6 @@
 use Rattle.std.proofs.Common.{◌≡◌, ℕ, ◌||◌, List, take}
 use Rattle.log_model.specs.FileTable.{is_among}
-use Rattle.extent_map.specs.NameSets.{has_name}
+use Rattle.record_codec.specs.NameSets.{has_name}
 use Rattle.extent_map.proofs.repeated_names.add_names.Given as goal
 
 -- the set has the names so far, and those that it had

@@ -1,7 +1,7 @@
 use Rattle.std.proofs.Common.{◌≡◌, true, false, ◌||◌, sym, ap, ◌∙◌}
 use Rattle.log_model.specs.FileTable.{is_among}
 use Rattle.std.specs.List.{list_any}
-use Rattle.extent_map.specs.NameSets.{has_name}
+use Rattle.record_codec.specs.NameSets.{has_name}
 use Rattle.extent_map.proofs.NameSetLaws.{none_more, repeat_found, set_more}
 use Rattle.extent_map.proofs.repeated_names.repeats_name.Goals as goal
 

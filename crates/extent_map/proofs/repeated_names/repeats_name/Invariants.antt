@@ -1,7 +1,7 @@
 use Rattle.std.proofs.Common.{◌≡◌, ℕ, ◌-◌, false, List, drop, length}
 use Rattle.std.specs.List.{list_any}
 use Rattle.log_model.specs.FileTable.{is_among, repeats_name}
-use Rattle.extent_map.specs.NameSets.{has_name}
+use Rattle.record_codec.specs.NameSets.{has_name}
 use Rattle.extent_map.proofs.repeated_names.repeats_name.Given as goal
 
 -- no name stands in two of the last entries, and the set has all their names

@@ -1,10 +1,18 @@
-use Rattle.std.proofs.Common.{◌≡◌, true, Ok, ap, sym, ◌∙◌}
+use Rattle.std.proofs.Common.{◌≡◌, true, Ok, ap, sym, subst, ◌∙◌}
 use Rattle.log_model.specs.FileTable.{Table, has_right_size, set_entry, take_names, with_entry}
+use Rattle.log_model.specs.TableLaws.{IdsRise}
+use Rattle.log_model.proofs.TableKept.{rise_others}
 use Rattle.fs_model.specs.FsState.{TableRow, mounted_row}
 use Rattle.extent_map.specs.Records.{recorded_of}
 use Rattle.extent_map.proofs.ApplyLaws.{unbroken}
 use Rattle.extent_map.proofs.SettingLaws.{recorded_removed}
 use Rattle.extent_map.proofs.setting.put_whole.Goals as goal
+
+pub set_row-requires-clause-ids : goal.set_row-requires-clause-ids
+set_row-requires-clause-ids c =
+    let rows = c.args.rows.now.items in
+    let removed = ap recorded_of c.remove.ensures.items ∙ recorded_removed 0 c.args.entry.now.id rows c.args.at c.new-row.result c.requires.ids c.requires.within (c.requires.id c.new-row.result) in
+    subst (IdsRise 0) (sym removed) (rise_others 0 c.args.entry.now.id (recorded_of rows) c.requires.ids)
 
 pub returns-clause-made : goal.returns-clause-made
 returns-clause-made c =

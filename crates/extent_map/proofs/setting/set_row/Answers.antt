@@ -1,6 +1,8 @@
 use Rattle.std.proofs.Common.{◌≡◌, ◌<◌, ℕ, List, length, vec_capacity, ap, subst, sym, ◌∙◌, arith}
 use Rattle.record_model.specs.declared.types.FileEntry.{FileEntry}
 use Rattle.log_model.specs.FileTable.{with_entry}
+use Rattle.log_model.specs.TableLaws.{IdsRise}
+use Rattle.log_model.proofs.TableLaws.{rise_taken}
 use Rattle.fs_model.specs.FsState.{TableRow}
 use Rattle.extent_map.specs.Applying.{AreRecorded, with_row}
 use Rattle.extent_map.specs.Naming.{rows_left}
@@ -8,6 +10,12 @@ use Rattle.extent_map.specs.Records.{recorded_of}
 use Rattle.extent_map.proofs.LinkLaws.{recorded_left}
 use Rattle.extent_map.proofs.SettingLaws.{all_fewer, all_with, fewer_rows, recorded_with, succeeded}
 use Rattle.extent_map.proofs.setting.set_row.Goals as goal
+
+pub put_row-requires : goal.put_row-requires
+put_row-requires c =
+    let rows = c.args.rows.now.items in
+    let left = ap recorded_of c.take_names.ensures.rows ∙ recorded_left c.items.result.now rows in
+    subst (IdsRise 0) (sym left) (rise_taken 0 c.items.result.now (recorded_of rows) c.requires.ids)
 
 pub returns-clause-made : goal.returns-clause-made
 returns-clause-made c =
