@@ -46,7 +46,7 @@ pub record Describes (bytes : List ℕ) (t : TableState) : Type 0 where
   pub possible : list_all (is_descriptor t.geometry) (descriptors_in t.geometry bytes) ≡ true
   pub said : map info_in (descriptors_in t.geometry bytes) ≡ table_infos t
 
--- a file that tells its bytes describes the zones, unless a descriptor's write failed
+-- a file that tells its bytes describes the zones, unless a descriptor's write or a sync failed
 abbrev pub IsDescribed : Type 0 → Bool → TableState → List ℕ → Type 0
 IsDescribed tells broken t bytes = tells → broken ≡ false → Describes bytes t
 

@@ -68,7 +68,7 @@ fault_counted c = record c { faults = next_count c.faults }
 abbrev pub change_counted : Counts → Counts
 change_counted c = record c { faults = next_count c.faults; failed_changes = next_count c.failed_changes }
 
--- after a change that is refused since a descriptor's write failed
+-- after a change that is refused since a descriptor's write or a sync failed
 abbrev pub refusal_counted : Counts → Counts
 refusal_counted c = record (change_counted c) { refusals = next_count c.refusals }
 

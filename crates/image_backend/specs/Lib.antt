@@ -1,5 +1,6 @@
 pub mod Contents
 pub mod MemFileState
+pub mod Accesses
 pub mod DiskFileState
 pub mod Format
 pub mod Table

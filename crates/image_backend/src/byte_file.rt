@@ -61,6 +61,11 @@ pub trait ByteFile: Drop {
         ensures empty { OnOk result (tells → contents self.new ≡ []) }
         ensures cause { HasCause (faults self.old) (faults self.new) (IsErr result) };
 
+    /// Takes the file that `create` made away again and closes it. Where that fails it stays, with whatever it holds.
+    fn remove(&mut self)
+        ensures empty { tells → contents self.new ≡ [] }
+        ensures no_fault { faults self.new ≡ faults self.old };
+
     /// The length in bytes.
     fn len(&mut self) -> Result<u64, FileFault>
         requires { is_open self.old }

@@ -4,13 +4,13 @@ ghost use Rattle.zone_image.specs.Image.{is_valid};
 ghost use Rattle.zone_image.specs.Changes.{blocks_in, appended, finished, emptied, synced};
 ghost use Rattle.zone_image.specs.Infos.{info_at, active_zones, infos_appended, infos_finished, infos_emptied, IsPossibleInfo};
 ghost use Rattle.zone_image.specs.Counts.{HasCause, Counts as Counted};
-ghost use Rattle.image_backend.specs.Contents.{patched, SameOutside};
+ghost use Rattle.image_backend.specs.Contents.{patched, SameFile, SameOutside};
 ghost use Rattle.image_backend.specs.Format.{descriptor_at, descriptor_bytes};
 ghost use Rattle.image_backend.specs.Table.{table_infos, slot_info, slot_at, slot_appended, slot_finished, no_slot, with_slot, table_synced};
 ghost use Rattle.image_backend.specs.ImageState.{change_counted, HoldsTable, HoldsZones, IsFair};
 ghost use Rattle.image_backend.specs.FileImage.{image_with, IsDescribed};
 
-use crate::byte_file::ByteFile;
+use crate::byte_file::{ByteFile, FileFault};
 use crate::counts::Counts;
 use crate::format::{self, block_at, descriptor_at};
 use crate::table::{NO_SLOT, Slot, Table};
@@ -60,11 +60,11 @@ pub(crate) fn append<F: ByteFile>(
     }
     let count = bytes.len() / geometry.block as usize;
     let after = slot.appended(geometry.capacity, count as u32);
-    put_slot(file, table, counts, zone, after)?;
+    put_slot(file, table, counts, zone, after, false)?;
     Ok(slot.written)
 }
 
-/// Seals a zone.
+/// Seals a zone. The seal is durable then.
 pub(crate) fn finish<F: ByteFile>(
     file: &mut F,
     table: &mut Table,
@@ -91,10 +91,10 @@ pub(crate) fn finish<F: ByteFile>(
 {
     counts.begin_change()?;
     let slot = table.slot(zone);
-    put_slot(file, table, counts, zone, slot.finished())
+    put_slot(file, table, counts, zone, slot.finished(), true)
 }
 
-/// Empties a zone.
+/// Empties a zone. It is durably empty then; of one that has neither a block nor a seal that is known already.
 pub(crate) fn reset<F: ByteFile>(
     file: &mut F,
     table: &mut Table,
@@ -120,10 +120,12 @@ pub(crate) fn reset<F: ByteFile>(
     ensures changes { Counted counts.old.failed_changes counts.new.failed_changes result }
 {
     counts.begin_change()?;
-    put_slot(file, table, counts, zone, NO_SLOT)
+    let slot = table.slot(zone);
+    put_slot(file, table, counts, zone, NO_SLOT, slot.is_used())
 }
 
-/// Makes all blocks durable.
+/// Makes all blocks durable. After a failed sync no further change is taken, since the system may answer the next one
+/// well though it lost what the first one was to keep.
 pub(crate) fn sync<F: ByteFile>(
     file: &mut F,
     table: &mut Table,
@@ -148,19 +150,20 @@ pub(crate) fn sync<F: ByteFile>(
 {
     counts.begin_change()?;
     if file.sync().is_err() {
-        return Err(counts.failed_change());
+        return Err(counts.break_off());
     }
     table.sync();
     Ok(())
 }
 
-// Writes a zone's descriptor. After a failed write no further change is taken.
+// Writes a zone's descriptor, and makes it durable where it is to last. After a fault no further change is taken.
 fn put_slot<F: ByteFile>(
     file: &mut F,
     table: &mut Table,
     counts: &mut Counts,
     zone: u32,
     slot: Slot,
+    lasts: bool,
 ) -> Result<(), DevFault>
     requires valid { IsTrue (is_valid table.old.geometry) }
     requires count { length table.old.slots ≡ table.old.geometry.zones }
@@ -182,9 +185,42 @@ fn put_slot<F: ByteFile>(
     ensures cause { HasCause counts.old.faults counts.new.faults (IsErr result) }
 {
     let bytes = format::descriptor(slot.info());
-    if file.write_at(descriptor_at(zone), &bytes).is_err() {
+    if write_part(file, descriptor_at(zone), &bytes, lasts).is_err() {
         return Err(counts.break_off());
     }
     table.set(zone, slot);
     Ok(())
+}
+
+// Writes bytes, and makes all that was written durable where they are to last.
+fn write_part<F: ByteFile>(
+    file: &mut F,
+    at: u64,
+    bytes: &[u8],
+    lasts: bool,
+) -> Result<(), FileFault>
+    requires opened { F.is_open file.old }
+    requires known { F.is_sized file.old }
+    requires within { at + length bytes.now ≤ F.size file.old }
+    ensures written { OnOk result (F.tells → F.contents file.new ≡ patched at bytes.now (F.contents file.old)) }
+    ensures after_fault { OnErr result (F.tells → SameOutside at (length bytes.now) (F.contents file.old) (F.contents file.new)) }
+    ensures still_open { F.is_open file.new }
+    ensures still_known { F.is_sized file.new }
+    ensures same_size { F.size file.new ≡ F.size file.old }
+    ensures cause { HasCause (F.faults file.old) (F.faults file.new) (IsErr result) }
+{
+    file.write_at(at, bytes)?;
+    sync_part(file, lasts)
+}
+
+// Makes all that was written durable where it is to last.
+fn sync_part<F: ByteFile>(file: &mut F, lasts: bool) -> Result<(), FileFault>
+    requires { F.is_open file.old }
+    ensures same { SameFile F.is_open F.is_sized F.size F.tells F.contents file.old file.new }
+    ensures cause { HasCause (F.faults file.old) (F.faults file.new) (IsErr result) }
+{
+    if !lasts {
+        return Ok(());
+    }
+    file.sync()
 }

@@ -7,7 +7,7 @@ use zoned_device::DevFault;
 
 #[derive(Clone, Copy)]
 pub(crate) struct Counts {
-    /// A descriptor's write failed, so that no further change is taken.
+    /// A descriptor's write or a sync failed, so that no further change is taken.
     pub(crate) broken: bool,
     pub(crate) faults: u64,
     pub(crate) failed_changes: u64,
@@ -35,7 +35,7 @@ impl Counts {
         DevFault
     }
 
-    /// Begins a change. It fails once a descriptor's write has failed.
+    /// Begins a change. It fails once a descriptor's write or a sync has failed.
     pub(crate) fn begin_change(&mut self) -> Result<(), DevFault>
         ensures refused { is_err result ≡ self.old.broken }
         ensures begun { OnOk result (self.new ≡ self.old) }
@@ -49,7 +49,7 @@ impl Counts {
         Ok(())
     }
 
-    /// A descriptor's write failed.
+    /// A descriptor's write or a sync failed.
     pub(crate) fn break_off(&mut self) -> DevFault
         ensures counted { self.new ≡ record (change_counted self.old) { broken = true } }
         ensures cause { HasCause self.old.faults self.new.faults (Unit {0}) }

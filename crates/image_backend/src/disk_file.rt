@@ -3,42 +3,51 @@ ghost use Rattle.std.specs.Prelude.{◌≡◌, None, false, IsErr, string_bytes}
 ghost use Rattle.zone_image.specs.Counts.{next_count, HasCause};
 ghost use Rattle.image_backend.specs.DiskFileState.{SameButFaults};
 
+use crate::access::{self, Access};
 use crate::byte_file::{ByteFile, FileFault, SetLenError};
-use std::fs::{File, OpenOptions};
+use std::alloc::Alloc;
+use std::fs::File;
 use std::io;
-use std::io::ErrorKind;
 use std::marker::Model;
 use std::os::unix::fs::FileExt;
 use std::rt::Files;
 
 /// The file of a path. It is opened by `open`, and an absent file is no fault. It tells nothing of its bytes.
+///
+/// While it is open nobody else changes it, and where it is changed nobody else has it: `open` and `create` take the
+/// system's lock on the file, which is kept until this is dropped, and don't wait for others that hold one. A lock that
+/// somebody holds is a fault, and so is a file system without locks. A file that was found to be missing stays so until
+/// `create`, which makes it but takes none that has bytes by then.
 #[derive(Drop)]
-pub struct DiskFile<R: Files<File = File> + Drop> {
+pub struct DiskFile<R: Files<File = File> + Alloc + Drop> {
     runtime: R,
     path: String,
+    access: Access,
     file: Option<File>,
     missing: bool,
     size: Option<u64>,
     faults: u64,
 }
 
-impl<R: Files<File = File> + Drop> Model for DiskFile<R> {
+impl<R: Files<File = File> + Alloc + Drop> Model for DiskFile<R> {
     ghost use Rattle.std.specs.Prelude.{is_some, string_bytes};
     ghost use Rattle.image_backend.specs.DiskFileState.{DiskFileState};
 
     ghost Value = { DiskFileState };
 
-    ghost view = { λ f. record { path = string_bytes f.path; opened = is_some f.file; missing = f.missing; size = f.size; faults = f.faults } };
+    ghost view = { λ f. record { path = string_bytes f.path; access = f.access; opened = is_some f.file; missing = f.missing; size = f.size; faults = f.faults } };
 }
 
-impl<R: Files<File = File> + Drop> DiskFile<R> {
-    /// The file of this path, which isn't opened yet.
-    pub fn new(runtime: R, path: String) -> DiskFile<R>
-        ensures { result ≡ record { path = string_bytes path; opened = false; missing = false; size = None; faults = 0 } }
+impl<R: Files<File = File> + Alloc + Drop> DiskFile<R> {
+    /// The file of this path, which isn't opened yet, and what is done with it. One that is only read takes no other
+    /// calls than `open`, `len` and `read_at`: each other one is a fault.
+    pub fn new(runtime: R, path: String, access: Access) -> DiskFile<R>
+        ensures { result ≡ record { path = string_bytes path; access = access; opened = false; missing = false; size = None; faults = 0 } }
     {
         DiskFile {
             runtime,
             path,
+            access,
             file: None,
             missing: false,
             size: None,
@@ -67,7 +76,7 @@ impl<R: Files<File = File> + Drop> DiskFile<R> {
     }
 }
 
-impl<R: Files<File = File> + Drop> ByteFile for DiskFile<R> {
+impl<R: Files<File = File> + Alloc + Drop> ByteFile for DiskFile<R> {
     ghost use Rattle.std.specs.Prelude.{◌≡◌, true, [], IsSome};
     ghost use Rattle.image_backend.specs.DiskFileState.{disk_size};
 
@@ -89,14 +98,16 @@ impl<R: Files<File = File> + Drop> ByteFile for DiskFile<R> {
         if self.file.is_some() {
             return Ok(true);
         }
-        let mut options = OpenOptions::new();
-        options.read(true).write(true);
-        match options.open(&self.runtime, self.path.as_str()) {
-            Ok(file) => {
+        // What somebody else made meanwhile is left alone: `create` refuses it.
+        if self.missing {
+            return Ok(false);
+        }
+        match access::open_locked(&self.runtime, self.path.as_str(), self.access) {
+            Ok(Some(file)) => {
                 self.file = Some(file);
                 Ok(true)
             }
-            Err(error) if error.kind() == ErrorKind::NotFound => {
+            Ok(None) => {
                 self.missing = true;
                 Ok(false)
             }
@@ -105,15 +116,29 @@ impl<R: Files<File = File> + Drop> ByteFile for DiskFile<R> {
     }
 
     fn create(&mut self) -> Result<(), FileFault> {
-        match File::create_new(&self.runtime, self.path.as_str()) {
+        if self.access == Access::Read {
+            return Err(self.fault());
+        }
+        match access::create_locked(&self.runtime, self.path.as_str()) {
             Ok(file) => {
                 self.file = Some(file);
                 self.missing = false;
                 self.size = Some(0);
                 Ok(())
             }
-            Err(_) => Err(self.fault()),
+            Err(_) => {
+                self.missing = false;
+                Err(self.fault())
+            }
         }
+    }
+
+    // The lock is kept until the file is gone, so that nobody else's is taken away.
+    fn remove(&mut self) {
+        let _ = access::remove(&self.runtime, self.path.as_str());
+        self.file = None;
+        self.missing = false;
+        self.size = None;
     }
 
     // The system is asked once: no call but `set_len` changes the length.

@@ -14,9 +14,9 @@ use zone_image::{Geometry, ZoneInfo};
 use zoned_device::{DevFault, MakeError, ProbeError, ZonedDevice};
 
 /// A device over a file that holds an image. Where the file tells its bytes, the device tells its image: the blocks of
-/// a zone are the bytes at its place. It tells nothing of crashes. After a failed write of a descriptor each later
-/// append, finish, reset and sync fails; the device then goes on reading the blocks that it knows, and nothing is told
-/// of what another device finds in the file. Apart from these, it has no more faults than its file.
+/// a zone are the bytes at its place. It tells nothing of crashes. After a failed write of a descriptor, or a failed sync,
+/// each later append, finish, reset and sync fails; the device then goes on reading the blocks that it knows, and nothing
+/// is told of what another device finds in the file. Apart from these, it has no more faults than its file.
 #[derive(Drop)]
 pub struct ImageZones<F: ByteFile> {
     alloc: Global,
@@ -59,8 +59,8 @@ impl<F: ByteFile> ImageZones<F> {
         }
     }
 
-    /// The file. Where zones are known and no descriptor's write failed, its bytes hold an image, and it is the one of
-    /// the device with all its blocks durable.
+    /// The file. Where zones are known, and no descriptor's write and no sync failed, its bytes hold an image, and it is
+    /// the one of the device with all its blocks durable.
     pub fn into_file(self) -> F
         ensures file { result ≡ self.file }
         ensures holds { F.tells → IsSome self.table → self.counts.broken ≡ false → is_image (F.contents result) ≡ true }

@@ -1,6 +1,7 @@
 //! Zoned devices kept in an image file.
 #![tactic(auto)]
 
+mod access;
 mod byte_file;
 mod changes;
 mod counts;
@@ -12,9 +13,8 @@ mod mem_file;
 mod reads;
 mod scanning;
 mod table;
-#[cfg(test)]
-mod tests;
 
+pub use access::Access;
 pub use byte_file::{ByteFile, FileFault, SetLenError};
 pub use disk_file::DiskFile;
 pub use image_zones::ImageZones;

@@ -1,5 +1,5 @@
 // Writes a new image to a file.
-ghost use Rattle.std.specs.Prelude.{◌≡◌, ◌↔◌, ◌+◌, length, true, false, OnOk, IsErr, IsErrOf, IsTrue};
+ghost use Rattle.std.specs.Prelude.{◌≡◌, ◌↔◌, ◌+◌, ◌-◌, [], length, replicate, true, false, IfOk, OnOk, IsErr, IsErrOf, IsTrue};
 ghost use Rattle.zone_image.specs.Image.{is_valid};
 ghost use Rattle.zone_image.specs.Changes.{blank};
 ghost use Rattle.zone_image.specs.Counts.{HasCause};
@@ -53,7 +53,8 @@ pub fn make_image<F: ByteFile>(
     }
 }
 
-/// Writes the length of an image, zeros for its descriptors, and its header last.
+/// Writes the length of an image, zeros for its descriptors, and its header last. Where that fails in a file that was
+/// made for it, the file is taken away again.
 pub(crate) fn write_image<F: ByteFile>(
     alloc: Global,
     file: &mut F,
@@ -72,9 +73,44 @@ pub(crate) fn write_image<F: ByteFile>(
         Ok(zeros) => zeros,
         Err(_) => return Err(MakeError::NoMemory),
     };
-    open_or_create(file)?;
+    let made = open_or_create(file)?;
+    match write_parts(file, geometry, &zeros) {
+        Ok(()) => Ok(()),
+        Err(error) => {
+            take_back(file, made);
+            Err(error)
+        }
+    }
+}
+
+// Takes a file away that was made here.
+fn take_back<F: ByteFile>(file: &mut F, made: bool)
+    ensures gone { IsTrue made → F.tells → F.contents file.new ≡ [] }
+    ensures same { made ≡ false → SameFile F.is_open F.is_sized F.size F.tells F.contents file.old file.new }
+    ensures no_fault { F.faults file.new ≡ F.faults file.old }
+{
+    if made {
+        file.remove();
+    }
+}
+
+// Writes the length of an image, zeros for its descriptors, and its header last.
+fn write_parts<F: ByteFile>(
+    file: &mut F,
+    geometry: &Geometry,
+    zeros: &[u8],
+) -> Result<(), MakeError>
+    requires valid { IsTrue (is_valid geometry.now) }
+    requires opened { F.is_open file.old }
+    requires size { 32 + length zeros.now ≡ zones_at geometry.now }
+    requires zeros { zeros.now ≡ replicate (zones_at geometry.now - 32) 0 }
+    ensures holds { OnOk result (HoldsZones F.is_open F.is_sized F.size geometry.now file.new) }
+    ensures made { OnOk result (F.tells → F.contents file.new ≡ new_image geometry.now (F.contents file.old)) }
+    ensures same { IsErrOf result MakeError.NoMemory → SameFile F.is_open F.is_sized F.size F.tells F.contents file.old file.new }
+    ensures cause { HasCause (F.faults file.old) (F.faults file.new) (IsErrOf result MakeError.Failed) }
+{
     file.set_len(format::image_bytes(geometry))?;
-    write_front(file, geometry, &zeros)?;
+    write_front(file, geometry, zeros)?;
     Ok(())
 }
 
@@ -97,18 +133,21 @@ fn write_front<F: ByteFile>(
     file.sync()
 }
 
-// Opens the file, and makes one where none is.
-fn open_or_create<F: ByteFile>(file: &mut F) -> Result<(), FileFault>
+// Opens the file, and makes one where none is. It answers whether it made one.
+fn open_or_create<F: ByteFile>(file: &mut F) -> Result<bool, FileFault>
     ensures opened { OnOk result (F.is_open file.new) }
+    ensures was_none { IfOk result (λ made. IsTrue made → F.is_open file.old → ⊥) }
+    ensures was_empty { IfOk result (λ made. IsTrue made → F.tells → F.contents file.old ≡ []) }
     ensures same { OnOk result (F.is_open file.old
         → SameFile F.is_open F.is_sized F.size F.tells F.contents file.old file.new) }
     ensures same_contents { OnOk result (F.tells → F.contents file.new ≡ F.contents file.old) }
     ensures cause { HasCause (F.faults file.old) (F.faults file.new) (IsErr result) }
 {
     if file.open()? {
-        return Ok(());
+        return Ok(false);
     }
-    file.create()
+    file.create()?;
+    Ok(true)
 }
 
 impl From<FileFault> for MakeError {

@@ -123,6 +123,16 @@ impl ByteFile for MemFile {
         Ok(())
     }
 
+    // It never fails, and isn't counted.
+    fn remove(&mut self)
+        ensures after { self.new ≡ record self.old { there = false; bytes = [] } }
+        ensures empty { mem_contents self.new ≡ [] }
+        ensures no_fault { self.new.faults ≡ self.old.faults }
+    {
+        self.there = false;
+        self.bytes.clear();
+    }
+
     fn len(&mut self) -> Result<u64, FileFault>
         requires { self.old.there ≡ true }
         ensures listed { is_err result ≡ is_next_listed self.old }

@@ -1,5 +1,5 @@
 // What is known of the zones of an image file.
-ghost use Rattle.std.specs.Prelude.{◌≡◌, ◌+◌, ◌<◌, ◌≤◌, length, map, IfOk};
+ghost use Rattle.std.specs.Prelude.{◌≡◌, ◌+◌, ◌<◌, ◌≤◌, ◌||◌, nat_lt, length, map, IfOk};
 ghost use Rattle.zone_image.specs.Infos.{is_active_info};
 ghost use Rattle.image_backend.specs.Table.{slot_at, slot_info, slot_of, slot_appended, slot_finished, slot_synced, with_slot, table_blank, table_synced};
 
@@ -63,6 +63,13 @@ impl Slot {
         ensures { result ≡ is_active_info (slot_info self.now) }
     {
         self.written > 0 && !self.sealed
+    }
+
+    /// Whether the zone has a block or a seal.
+    pub(crate) fn is_used(&self) -> bool
+        ensures { result ≡ (nat_lt 0 self.now.written || self.now.sealed) }
+    {
+        self.written > 0 || self.sealed
     }
 
     /// What is told of the zone.

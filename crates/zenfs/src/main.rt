@@ -1,8 +1,10 @@
 // The utility `zenfs`: this program reads its words, and `zenfs_cmd` does what they ask.
 #![tactic(auto)]
 
+mod access;
 mod images;
 mod random;
+mod streams;
 #[cfg(test)]
 mod tests;
 mod words;
@@ -11,6 +13,7 @@ use fs_report::{OutSink, Status};
 use images::zones_of;
 use random::random_bits;
 use std::process::ExitCode;
+use streams::hold_places;
 use words::words_of;
 
 fn main(rt: HostRuntime) -> ExitCode {
@@ -21,6 +24,11 @@ fn main(rt: HostRuntime) -> ExitCode {
 fn answer(rt: HostRuntime) -> Status {
     let mut out = OutSink::new(rt.stdout());
     let mut err = OutSink::new(rt.stderr());
+    // It comes before any other file is opened, and is held to the end.
+    let _places = match hold_places(rt) {
+        Ok(places) => places,
+        Err(cause) => return zenfs_cmd::refuse(&mut err, cause),
+    };
     let words = match words_of(rt) {
         Ok(words) => words,
         Err(cause) => return zenfs_cmd::refuse(&mut err, cause),

@@ -1,6 +1,6 @@
 use crate::images::zones_of;
 use fs_report::{MemSink, Status};
-use image_backend::{DiskFile, ImageZones};
+use image_backend::{Access, DiskFile, ImageZones};
 use meta_log::spell;
 use std::alloc::Global;
 use std::fs;
@@ -49,7 +49,7 @@ fn write_image(
     let mut log = spell(alloc, &bytes, 512)?.items().to_vec(alloc)?;
     log.extend_from_slice(spell(alloc, snapshot, 512)?.items())?;
     assert!(abort; log.len() == 1536);
-    let file = DiskFile::new(rt, String::from_str(alloc, path)?);
+    let file = DiskFile::new(rt, String::from_str(alloc, path)?, Access::Change);
     let mut zones = ImageZones::new(alloc, file);
     zones.make(&SHAPE)?;
     zones.append(0, log.as_slice())?;
