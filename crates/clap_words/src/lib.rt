@@ -7,8 +7,6 @@ mod numbers;
 mod options;
 mod parser;
 mod reading;
-#[cfg(test)]
-mod tests;
 mod values;
 
 pub use laws::reads_commands;

@@ -7,8 +7,6 @@ mod reading;
 mod settings;
 mod shapes;
 mod splitting;
-#[cfg(test)]
-mod tests;
 mod values;
 
 pub use command::Command;

@@ -6,8 +6,6 @@ ghost use Rattle.crc32c_core.specs.Checksum.{crc32c, masked};
 
 mod register;
 mod tables;
-#[cfg(test)]
-mod tests;
 
 // What the register starts with, and what is added to it at the end.
 const ALL_ONES: u32 = 0xFFFF_FFFF;

@@ -6,6 +6,3 @@ mod parts;
 mod zones;
 
 pub use extents::read_extent;
-
-#[cfg(test)]
-mod tests;

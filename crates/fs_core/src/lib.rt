@@ -23,10 +23,6 @@ mod shown;
 mod standing;
 mod storing;
 mod tables;
-#[cfg(test)]
-mod tests;
-#[cfg(test)]
-mod write_tests;
 
 pub use check::Change;
 pub use error::{MountError, ReadError, Refused};

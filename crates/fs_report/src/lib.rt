@@ -7,13 +7,9 @@ mod making;
 mod mem_sink;
 mod out_sink;
 mod refusal_line;
-#[cfg(test)]
-mod refusal_tests;
 mod sink;
 mod status;
 mod superblock_lines;
-#[cfg(test)]
-mod tests;
 
 pub use cause::Cause;
 pub use listing::{Line, list_text, push_lines, text_of_lines};

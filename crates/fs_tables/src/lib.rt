@@ -9,8 +9,6 @@ mod needs;
 mod records;
 mod release;
 mod tables;
-#[cfg(test)]
-mod tests;
 mod zone_steps;
 
 pub use blocks::ChangeNeed;

@@ -5,10 +5,6 @@
 mod beginnings;
 mod buffer;
 mod choosing;
-#[cfg(test)]
-mod choosing_tests;
-#[cfg(test)]
-mod crash_tests;
 mod error;
 mod first;
 mod formatting;
@@ -23,8 +19,6 @@ mod rolling;
 mod select;
 mod steps;
 mod summary;
-#[cfg(test)]
-mod tests;
 
 pub use beginnings::begins;
 pub use buffer::RollBuffer;

@@ -8,12 +8,8 @@ pub mod rest;
 mod rolling;
 mod room;
 mod settle;
-#[cfg(test)]
-mod settle_tests;
 pub mod settling;
 mod spelled;
-#[cfg(test)]
-mod tests;
 
 pub use adding::add_record;
 pub use log_roll::{RollBuffer, RollError};

@@ -5,8 +5,6 @@ mod device;
 mod error;
 mod file_system;
 mod settings;
-#[cfg(test)]
-mod tests;
 
 pub use device::make_device;
 pub use error::{MakeDeviceError, MakeFsError};

@@ -7,8 +7,6 @@ mod item;
 mod read;
 mod reader;
 mod record;
-#[cfg(test)]
-mod tests;
 
 pub use append::add;
 pub use error::LogError;

@@ -16,8 +16,6 @@ mod records;
 mod recovered;
 mod rules;
 mod tables;
-#[cfg(test)]
-mod tests;
 
 pub use error::ReplayError;
 pub use mount::{Mounted, replay};

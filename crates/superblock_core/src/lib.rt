@@ -4,8 +4,6 @@
 mod field;
 mod identifier;
 mod superblock;
-#[cfg(test)]
-mod tests;
 mod text;
 
 pub use superblock::{COLLECT_FLAG, Differs, SUPERBLOCK_BYTES, SbError, Superblock};

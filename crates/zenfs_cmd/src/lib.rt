@@ -3,21 +3,15 @@
 
 mod causes;
 mod change;
-#[cfg(test)]
-mod change_tests;
 mod command;
 mod info;
 mod lines;
 mod list;
 mod making;
-#[cfg(test)]
-mod making_tests;
 mod mounted;
 mod names;
 mod perform;
 mod refusal;
-#[cfg(test)]
-mod tests;
 mod words;
 mod writing;
 

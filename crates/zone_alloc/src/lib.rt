@@ -6,8 +6,6 @@ mod collecting;
 mod extent;
 mod finishing;
 mod space;
-#[cfg(test)]
-mod tests;
 mod walks;
 mod zone;
 mod zone_table;

@@ -21,6 +21,3 @@ pub use fuse_zones::FuseZones;
 pub use mem_zones::MemZones;
 pub use sure_zones::SureZones;
 pub use zone_image::{Geometry, Place, ZoneInfo};
-
-#[cfg(test)]
-mod tests;
