@@ -1,7 +1,7 @@
 -- Rows of a table in which everything is recorded.
-use Rattle.std.specs.Prelude.{All, ◌≤◌, ◌≡◌, ℕ, ◌+◌, ◌<◌, Bool, true, false, not, cond, List, [], ◌∷◌, length, max, nat_lt, ◌==◌, Some, None, option_map, Result, Ok, Err, refl}
+use Rattle.std.specs.Prelude.{All, ◌≤◌, ◌≡◌, ℕ, zero, suc, ◌+◌, Bool, true, false, not, cond, List, [], ◌∷◌, length, max, nat_lt, ◌==◌, Some, None, option_map, Result, Ok, Err, refl}
 use Rattle.std.proofs.lemmas.List.Elements.{All-map}
-use Rattle.std.proofs.Common.{subst, drop, get_or, ap, sym, ◌∙◌, arith, add-one, drop-cons}
+use Rattle.std.proofs.Common.{subst, get_or, ap, sym, ◌∙◌, arith}
 use Rattle.std.proofs.lemmas.Bool.{lt-ltb, ltb-true, ltb-false, eqb-true, and_parts}
 use Rattle.std.specs.List.{AllByRecursion, list_all}
 use Rattle.record_model.specs.Grammar.{InGrammar, IsWritable}
@@ -9,13 +9,14 @@ use Rattle.record_model.specs.declared.types.Record.{Record}
 use Rattle.record_model.specs.declared.types.FileEntry.{FileEntry}
 use Rattle.record_model.specs.declared.types.Record.TheVariants.{Snapshot, Update, Deletion, End, Replace}
 use Rattle.log_model.specs.FileTable.{Table, file_of, has_right_size, grown, sorted, size_of, after_record, unless_broken, set_entry, delete_from, take_names, is_among, repeats_id, repeats_name, is_named}
-use Rattle.log_model.specs.TableLaws.{IsNamedRecord}
+use Rattle.log_model.specs.TableLaws.{IdsRise, IsNamedRecord}
 use Rattle.log_model.specs.declared.selection.DamageWhy.TheVariants as why
 use Rattle.log_model.specs.declared.selection.DamageWhy.{DamageWhy}
 use Rattle.fs_model.specs.FsState.{TableRow, mounted_row, row_of, greatest_id}
 use Rattle.extent_map.specs.Applying.{rows_of, IsMade, snapshot_table}
 use Rattle.extent_map.specs.Records.{recorded_of}
 use Rattle.extent_map.specs.Sound.{IsSound}
+use Rattle.extent_map.proofs.ChangeLaws.{id_at}
 
 -- the recorded entries of a table's rows
 pub recorded_rows : (es : Table) → recorded_of (rows_of es) ≡ es
@@ -46,13 +47,21 @@ greatest_first e es = choice (nat_lt e.id (greatest_id es)) refl
     choice true is = omega (arith, ltb-true e.id (greatest_id es) is)
     choice false is = omega (arith, ltb-false e.id (greatest_id es) is)
 
--- one row more
-pub greatest_more : (i : ℕ) (rows : List TableRow) (r : TableRow) (greatest all : ℕ) → i < length rows → r ≡ get_or rows i r
-    → max greatest (greatest_id (recorded_of (drop i rows))) ≡ all → max (max greatest r.entry.id) (greatest_id (recorded_of (drop (i + 1) rows))) ≡ all
-greatest_more i rows r greatest all lt is h =
-    let split : drop i rows ≡ r ∷ drop (i + 1) rows = rw (drop-cons rows i r lt, ← is, add-one) refl in
-    let rest = ap (λ (rs : List TableRow). greatest_id (recorded_of rs)) split ∙ greatest_first r.entry (recorded_of (drop (i + 1) rows)) in
-    omega (arith, rest, h)
+-- no file has an id
+pub greatest_none : (rows : List TableRow) → length rows ≡ 0 → greatest_id (recorded_of rows) ≡ 0
+greatest_none [] none = refl
+greatest_none (r ∷ rs) none = absurd (omega (arith, none))
+
+-- where ids rise the last file has the greatest
+pub greatest_last : (from : ℕ) (rows : List TableRow) (k : ℕ) (d : TableRow) → IdsRise from (recorded_of rows) → k + 1 ≡ length rows → greatest_id (recorded_of rows) ≡ (get_or rows k d).entry.id
+greatest_last from [] k d rise last = absurd (omega (arith, last))
+greatest_last from (r ∷ []) zero d rise last = omega (arith, greatest_first r.entry [])
+greatest_last from (r ∷ q ∷ qs) zero d rise last = absurd (omega (arith, last))
+greatest_last from (r ∷ []) (suc k) d rise last = absurd (omega (arith, last))
+greatest_last from (r ∷ q ∷ qs) (suc k) d rise last =
+    let rest = greatest_last (r.entry.id + 1) (q ∷ qs) k d rise.1 (omega (arith, last)) in
+    let above = id_at (r.entry.id + 1) (q ∷ qs) k d rise.1 (omega (arith, last)) in
+    ap (λ b. cond b (greatest_id (recorded_of (q ∷ qs))) r.entry.id) (lt-ltb r.entry.id (greatest_id (recorded_of (q ∷ qs))) (omega (arith, rest, above))) ∙ rest
 
 -- an entry that a record may have, of the right size, may be a row
 pub sound_entry : (e : FileEntry) → IsWritable e → has_right_size e ≡ true → IsSound e

@@ -16,3 +16,4 @@ pub mod RepeatLaws
 pub mod SettingLaws
 pub mod TakenLaws
 pub mod HalfLaws
+pub mod HolderLaws

@@ -1,18 +1,20 @@
 -- Rows that take their place among others in which everything is recorded.
-use Rattle.std.specs.Prelude.{◌≡◌, ⊤, ℕ, zero, suc, ◌+◌, ◌<◌, ◌≤◌, Bool, true, false, not, cond, List, [], ◌∷◌, length, Some, None, nat_lt, ◌==◌, Result, Ok, Err, IsOk, OnOk, IfErr, refl}
+use Rattle.std.specs.Prelude.{◌≡◌, ⊤, ℕ, zero, suc, ◌+◌, ◌<◌, ◌≤◌, Bool, true, false, not, cond, List, [], ◌∷◌, length, Option, Some, None, nat_lt, ◌==◌, Result, Ok, Err, IsOk, OnOk, IfErr, refl}
 use Rattle.std.specs.List.{remove}
 use Rattle.std.proofs.Common.{set, get_or, ap, sym, subst, ◌∙◌, arith}
-use Rattle.std.proofs.lemmas.Bool.{eq-eqb, ne_eqb}
-use Rattle.std.proofs.lemmas.List.Elements.{recursion_from_All}
-use Rattle.log_model.specs.FileTable.{Table, is_named, with_entry}
-use Rattle.log_model.specs.TableLaws.{IdsRise}
+use Rattle.std.proofs.lemmas.Bool.{eq-eqb, ne_eqb, le-ltb}
+use Rattle.std.specs.List.{AllByRecursion}
+use Rattle.log_model.specs.FileTable.{Table, is_named, set_entry, take_names, with_entry}
+use Rattle.log_model.specs.TableLaws.{IdsRise, IsTable}
 use Rattle.log_model.specs.declared.selection.DamageWhy.{DamageWhy}
-use Rattle.log_model.proofs.TableLaws.{others_past}
+use Rattle.log_model.proofs.TableLaws.{others_past, placed_first}
 use Rattle.fs_model.specs.FsState.{TableRow, row_of, mounted_row}
-use Rattle.extent_map.specs.Applying.{AreRecorded, AreSettled, IsMade, others_of, rows_of, with_row}
+use Rattle.extent_map.specs.Applying.{ArePlain, AreSettled, IsPlain, IsFreeAt, IsMade, others_of, rows_of, with_row}
 use Rattle.extent_map.specs.Naming.{without_names, rows_left}
 use Rattle.extent_map.specs.Records.{recorded_of}
-use Rattle.extent_map.proofs.ApplyLaws.{all_recorded}
+use Rattle.extent_map.specs.Holding.{AreKnown, are_known_free}
+use Rattle.extent_map.specs.declared.holders.Holders.{Holders}
+use Rattle.extent_map.proofs.HolderLaws.{free_taken}
 use Rattle.extent_map.proofs.ChangeLaws.{id_at}
 
 -- ---- a row in its place
@@ -29,29 +31,29 @@ recorded_with r (q ∷ qs) = choice (nat_lt r.entry.id q.entry.id) (r.entry.id =
     choice false true h = refl
     choice false false h = ap (λ (es : Table). q.entry ∷ es) h
 
--- everything is recorded with one more in which it is
-pub all_with : (r : TableRow) (rows : List TableRow) → r.unrecorded ≡ [] → AreRecorded rows → AreRecorded (with_row r rows)
+-- rows are plain with a plain one more
+pub all_with : (r : TableRow) (rows : List TableRow) → IsPlain r → ArePlain rows → ArePlain (with_row r rows)
 all_with r [] none h = (none, tt)
 all_with r (q ∷ qs) none h = choice (nat_lt r.entry.id q.entry.id) (r.entry.id == q.entry.id) (all_with r qs none h.1)
   where
-    choice : (b c : Bool) → AreRecorded (with_row r qs) → AreRecorded (cond b (r ∷ q ∷ qs) (cond c (r ∷ qs) (q ∷ with_row r qs)))
+    choice : (b c : Bool) → ArePlain (with_row r qs) → ArePlain (cond b (r ∷ q ∷ qs) (cond c (r ∷ qs) (q ∷ with_row r qs)))
     choice true c rest = (none, h)
     choice false true rest = (none, h.1)
     choice false false rest = (h.0, rest)
 
 -- ---- fewer names, and fewer rows
 
--- everything is recorded where names are taken
-pub all_fewer : (taken : List (List ℕ)) (rows : List TableRow) → AreRecorded rows → AreRecorded (rows_left taken rows)
+-- so they are where names are taken
+pub all_fewer : (taken : List (List ℕ)) (rows : List TableRow) → ArePlain rows → ArePlain (rows_left taken rows)
 all_fewer taken [] h = tt
 all_fewer taken (r ∷ rs) h = choice (is_named (without_names taken r).entry) (all_fewer taken rs h.1)
   where
-    choice : (b : Bool) → AreRecorded (rows_left taken rs) → AreRecorded (cond b (without_names taken r ∷ rows_left taken rs) (rows_left taken rs))
+    choice : (b : Bool) → ArePlain (rows_left taken rs) → ArePlain (cond b (without_names taken r ∷ rows_left taken rs) (rows_left taken rs))
     choice true rest = (h.0, rest)
     choice false rest = rest
 
--- everything is recorded without one row
-pub all_removed : (rows : List TableRow) (k : ℕ) → AreRecorded rows → AreRecorded (remove rows k)
+-- and without one row
+pub all_removed : (rows : List TableRow) (k : ℕ) → ArePlain rows → ArePlain (remove rows k)
 all_removed [] zero h = tt
 all_removed [] (suc k) h = tt
 all_removed (r ∷ rs) zero h = h.1
@@ -94,18 +96,44 @@ remove_set [] (suc k) new = refl
 remove_set (r ∷ rs) zero new = refl
 remove_set (r ∷ rs) (suc k) new = ap (λ (qs : List TableRow). r ∷ qs) (remove_set rs k new)
 
--- of each row everything is recorded
-pub recorded_at : (rows : List TableRow) (k : ℕ) (d : TableRow) → AreRecorded rows → k < length rows → (get_or rows k d).unrecorded ≡ []
-recorded_at [] k d h lt = absurd (omega arith)
-recorded_at (r ∷ rs) zero d h lt = h.0
-recorded_at (r ∷ rs) (suc k) d h lt = recorded_at rs k d h.1 (omega arith)
+-- each row is plain
+pub plain_at : (rows : List TableRow) (k : ℕ) (d : TableRow) → ArePlain rows → k < length rows → IsPlain (get_or rows k d)
+plain_at [] k d h lt = absurd (omega arith)
+plain_at (r ∷ rs) zero d h lt = h.0
+plain_at (r ∷ rs) (suc k) d h lt = plain_at rs k d h.1 (omega arith)
 
--- rows in which everything is recorded are those of what is
-pub settled_rows : (rows : List TableRow) → AreRecorded rows → AreSettled rows → rows ≡ rows_of (recorded_of rows)
-settled_rows [] h k = refl
-settled_rows (r ∷ rs) h k =
-    ap (λ (q : TableRow). q ∷ rs) (ap (λ u. record r { unrecorded = u }) h.0 ∙ ap (λ n. record { entry = r.entry; unrecorded = []; shown = n }) (k.0 h.0))
-    ∙ ap (λ (qs : List TableRow). mounted_row r.entry ∷ qs) (settled_rows rs h.1 k.1)
+-- rows are plain with a plain one in the place of another
+pub all_set : (rows : List TableRow) (k : ℕ) (new : TableRow) → ArePlain rows → IsPlain new → ArePlain (set rows k new)
+all_set [] k new h plain = tt
+all_set (r ∷ rs) zero new h plain = (plain, h.1)
+all_set (r ∷ rs) (suc k) new h plain = (h.0, all_set rs k new h.1 plain)
+
+-- plain rows are those of what is recorded
+pub settled_rows : (rows : List TableRow) → ArePlain rows → rows ≡ rows_of (recorded_of rows)
+settled_rows [] h = refl
+settled_rows (r ∷ rs) h =
+    ap (λ (q : TableRow). q ∷ rs) (ap (λ u. record r { unrecorded = u }) h.0.0 ∙ ap (λ n. record { entry = r.entry; unrecorded = []; shown = n }) h.0.1)
+    ∙ ap (λ (qs : List TableRow). mounted_row r.entry ∷ qs) (settled_rows rs h.1)
+
+-- rows in which everything is recorded are plain where all of it is shown
+pub plain_rows : (rows : List TableRow) → AllByRecursion (λ r. r.unrecorded ≡ []) rows → AreSettled rows → ArePlain rows
+plain_rows [] h k = tt
+plain_rows (r ∷ rs) h k = ((h.0, k.0 h.0), plain_rows rs h.1 k.1)
+
+-- everything is recorded in plain rows
+pub plain_recorded : (rows : List TableRow) → ArePlain rows → AllByRecursion (λ r. r.unrecorded ≡ []) rows
+plain_recorded [] h = tt
+plain_recorded (r ∷ rs) h = (h.0.0, plain_recorded rs h.1)
+
+-- and all of it is shown
+pub plain_settled : (rows : List TableRow) → ArePlain rows → AreSettled rows
+plain_settled [] h = tt
+plain_settled (r ∷ rs) h = ((λ none. h.0.1), plain_settled rs h.1)
+
+-- the rows of a table are plain
+rows_plain : (es : Table) → ArePlain (rows_of es)
+rows_plain [] = tt
+rows_plain (e ∷ es) = ((refl, refl), rows_plain es)
 
 -- a row that was put stands there
 pub set_at : (rows : List TableRow) (k : ℕ) (new d : TableRow) → k < length rows → get_or (set rows k new) k d ≡ new
@@ -133,9 +161,64 @@ pub succeeded : {A E : Type 0} (r : Result A E) (P : Type 0) → IsOk r → OnOk
 succeeded (Ok x) P ok h = h
 succeeded (Err e) P ok h = absurd cc
 
--- rows that a snapshot makes have everything recorded
-pub made_recorded : (after : Result Table DamageWhy) (rows : List TableRow) → IsMade after rows → AreRecorded rows
-made_recorded after rows made = recursion_from_All (λ (r : TableRow). r.unrecorded ≡ []) rows (all_recorded after rows made)
+-- rows that a snapshot makes are plain
+pub made_plain : (after : Result Table DamageWhy) (rows : List TableRow) → IsMade after rows → ArePlain rows
+made_plain after rows made = subst ArePlain (sym made.settled) (rows_plain (recorded_of rows))
+
+-- ---- a row in the place of another of its id
+
+-- ids rise as before
+pub rise_set : (from : ℕ) (rows : List TableRow) (k : ℕ) (new d : TableRow) → IdsRise from (recorded_of rows) → (get_or rows k d).entry.id ≡ new.entry.id
+    → IdsRise from (recorded_of (set rows k new))
+rise_set from [] k new d rise same = tt
+rise_set from (r ∷ rs) zero new d rise same =
+    (omega (arith, rise.0, same), subst (λ n. IdsRise (n + 1) (recorded_of rs)) same rise.1)
+rise_set from (r ∷ rs) (suc k) new d rise same = (rise.0, rise_set (r.entry.id + 1) rs k new d rise.1 same)
+
+-- what is recorded with it
+pub recorded_set : (from : ℕ) (rows : List TableRow) (k : ℕ) (new d : TableRow) → IdsRise from (recorded_of rows) → k < length rows → (get_or rows k d).entry.id ≡ new.entry.id
+    → recorded_of (set rows k new) ≡ with_entry new.entry (others_of new.entry.id (recorded_of rows))
+recorded_set from [] k new d rise lt same = absurd (omega arith)
+recorded_set from (r ∷ rs) zero new d rise lt same =
+    sym (ap (λ b. with_entry new.entry (cond (not b) (r.entry ∷ others_of new.entry.id (recorded_of rs)) (others_of new.entry.id (recorded_of rs)))) (eq-eqb r.entry.id new.entry.id same)
+    ∙ ap (with_entry new.entry) (others_past (r.entry.id + 1) new.entry.id (recorded_of rs) rise.1 (omega (arith, same)))
+    ∙ placed_first (r.entry.id + 1) new.entry (recorded_of rs) rise.1 (omega (arith, same)))
+recorded_set from (r ∷ rs) (suc k) new d rise lt same =
+    let above = id_at (r.entry.id + 1) rs k d rise.1 (omega arith) in
+    let rest = recorded_set (r.entry.id + 1) rs k new d rise.1 (omega arith) same in
+    let others = others_of new.entry.id (recorded_of rs) in
+    ap (λ (es : Table). r.entry ∷ es) rest
+    ∙ sym (ap (λ b. with_entry new.entry (cond (not b) (r.entry ∷ others) others)) (ne_eqb r.entry.id new.entry.id (λ at. omega (arith, above, same)))
+    ∙ ap (λ b. cond b (new.entry ∷ r.entry ∷ others) (cond (new.entry.id == r.entry.id) (new.entry ∷ others) (r.entry ∷ with_entry new.entry others)))
+    (le-ltb new.entry.id r.entry.id (omega (arith, above, same)))
+    ∙ ap (λ b. cond b (new.entry ∷ others) (r.entry ∷ with_entry new.entry others)) (ne_eqb new.entry.id r.entry.id (λ at. omega (arith, above, same, at))))
+
+-- the others are the same
+pub others_set : (rows : List TableRow) (k : ℕ) (new d : TableRow) → k < length rows → (get_or rows k d).entry.id ≡ new.entry.id
+    → others_of new.entry.id (recorded_of (set rows k new)) ≡ others_of new.entry.id (recorded_of rows)
+others_set [] k new d lt same = absurd (omega arith)
+others_set (r ∷ rs) zero new d lt same =
+    let others = others_of new.entry.id (recorded_of rs) in
+    ap (λ b. cond (not b) (new.entry ∷ others) others) (eq-eqb new.entry.id new.entry.id refl)
+    ∙ sym (ap (λ b. cond (not b) (r.entry ∷ others) others) (eq-eqb r.entry.id new.entry.id same))
+others_set (r ∷ rs) (suc k) new d lt same =
+    ap (λ (es : Table). cond (not (r.entry.id == new.entry.id)) (r.entry ∷ es) es) (others_set rs k new d (omega arith) same)
+
+-- what is made where its names are taken from the others
+pub settled_made : (rows : List TableRow) (k : ℕ) (new d : TableRow) (es : Table) → k < length rows → (get_or rows k d).entry.id ≡ new.entry.id
+    → es ≡ set_entry (get_or (set rows k new) k d).entry (recorded_of (set rows k new)) → es ≡ set_entry new.entry (recorded_of rows)
+settled_made rows k new d es lt same made =
+    made ∙ ap (λ (r : TableRow). set_entry r.entry (recorded_of (set rows k new))) (set_at rows k new d lt)
+    ∙ ap (λ (fs : Table). with_entry new.entry (take_names new.entry.names fs)) (others_set rows k new d lt same)
+
+-- nothing is taken where the names are free
+pub free_set : (holders : Option Holders) (rows : List TableRow) (k : ℕ) (new d : TableRow) → IsTable (recorded_of rows) → AreKnown holders (recorded_of rows)
+    → are_known_free holders new.entry.id new.entry.names ≡ true → k < length rows → (get_or rows k d).entry.id ≡ new.entry.id → IsFreeAt k (set rows k new)
+free_set holders rows k new d table known free lt same = λ e.
+    let taken = free_taken holders new.entry.id new.entry.names (recorded_of rows) table known free in
+    let others = others_set rows k new d lt same in
+    subst (λ (r : TableRow). take_names r.entry.names (others_of r.entry.id (recorded_of (set rows k new))) ≡ others_of r.entry.id (recorded_of (set rows k new)))
+    (sym (set_at rows k new e lt)) (subst (λ (fs : Table). take_names new.entry.names fs ≡ fs) (sym others) taken)
 
 -- ---- a place that is known
 

@@ -1,9 +1,9 @@
 -- What a record makes of the rows of a table in which everything is recorded.
-use Rattle.std.specs.Prelude.{◌≡◌, ⊤, ℕ, suc, not, List, [], ◌∷◌, map, filter, Result, Ok, Err, nat_lt, ◌==◌, if◌then◌else◌}
+use Rattle.std.specs.Prelude.{◌≡◌, ⊤, ℕ, suc, not, List, [], ◌∷◌, map, filter, Result, Ok, Err, nat_lt, ◌==◌, if◌then◌else◌, slice_index_or}
 use Rattle.record_model.specs.declared.types.FileEntry.{FileEntry}
 use Rattle.std.specs.List.{AllByRecursion, list_all}
 use Rattle.record_model.specs.FieldDecoding.{◌>>=◌}
-use Rattle.log_model.specs.FileTable.{Table, unless_broken, has_right_size, repeats_id, repeats_name, sorted}
+use Rattle.log_model.specs.FileTable.{Table, unless_broken, has_right_size, repeats_id, repeats_name, sorted, take_names}
 use Rattle.log_model.specs.declared.selection.DamageWhy.{DamageWhy}
 use Rattle.log_model.specs.declared.selection.DamageWhy.TheVariants as why
 use Rattle.fs_model.specs.FsState.{TableRow, mounted_row}
@@ -19,9 +19,13 @@ rows_of es = map mounted_row es
 abbrev pub others_of : ℕ → Table → Table
 others_of id es = filter (λ f. not (f.id == id)) es
 
--- everything is recorded of each file
-abbrev pub AreRecorded : List TableRow → Type 0
-AreRecorded rows = AllByRecursion (λ r. r.unrecorded ≡ []) rows
+-- everything is recorded of a file, and all of it is shown
+abbrev pub IsPlain : TableRow → Type 0
+IsPlain r = (r.unrecorded ≡ []) × (r.shown ≡ r.entry.size)
+
+-- so it is of each file
+abbrev pub ArePlain : List TableRow → Type 0
+ArePlain rows = AllByRecursion IsPlain rows
 
 -- of each file everything is shown, where everything is recorded
 abbrev pub AreSettled : List TableRow → Type 0
@@ -55,3 +59,8 @@ with_row r (q ∷ qs) =
 abbrev pub place_of : ℕ → List TableRow → ℕ
 place_of id [] = 0
 place_of id (q ∷ qs) = if nat_lt q.entry.id id then suc (place_of id qs) else 0
+
+-- no other file has a name of the one that stands there
+abbrev pub IsFreeAt : ℕ → List TableRow → Type 0
+IsFreeAt at rows = (d : TableRow) → take_names (slice_index_or rows at d).entry.names (others_of (slice_index_or rows at d).entry.id (recorded_of rows))
+    ≡ others_of (slice_index_or rows at d).entry.id (recorded_of rows)

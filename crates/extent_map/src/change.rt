@@ -30,6 +30,7 @@ impl FileTable {
         ensures names_spare { OnOk result (1 ≤ self.new.names_spare) }
         ensures spare { OnOk result (IsSome (row_of id self.new.rows) → 1 ≤ spare_at id self.new.spare) }
     {
+        self.holders = None;
         let alloc = *self.rows.allocator();
         let room = room_in(alloc, &self.rows, id)?;
         self.rows.reserve(1)?;
@@ -50,6 +51,7 @@ impl FileTable {
         ensures rows { self.new.rows ≡ on_row id (note extent) self.old.rows }
         ensures greatest { self.new.greatest ≡ self.old.greatest }
     {
+        self.holders = None;
         let at = index_of(&self.rows, id).unwrap();
         let room = self.room.take().unwrap();
         let row = &mut self.rows[at];
@@ -62,6 +64,7 @@ impl FileTable {
         ensures rows { self.new.rows ≡ on_row id (shown_row time) self.old.rows }
         ensures greatest { self.new.greatest ≡ self.old.greatest }
     {
+        self.holders = None;
         let at = index_of(&self.rows, id).unwrap();
         let row = &mut self.rows[at];
         row.show(time);
@@ -74,6 +77,7 @@ impl FileTable {
         ensures rows { self.new.rows ≡ on_row id (moved moves.now) self.old.rows }
         ensures greatest { self.new.greatest ≡ self.old.greatest }
     {
+        self.holders = None;
         let at = index_of(&self.rows, id).unwrap();
         let row = &mut self.rows[at];
         row.move_extents(moves);
@@ -86,6 +90,7 @@ impl FileTable {
         ensures rows { self.new.rows ≡ on_row id (recorded_row active) self.old.rows }
         ensures greatest { self.new.greatest ≡ self.old.greatest }
     {
+        self.holders = None;
         let at = index_of(&self.rows, id).unwrap();
         let row = &mut self.rows[at];
         row.record(active);

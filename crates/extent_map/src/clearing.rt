@@ -12,6 +12,7 @@ impl FileTable {
         ensures rows { self.new.rows ≡ map cleared self.old.rows }
         ensures greatest { self.new.greatest ≡ self.old.greatest }
     {
+        self.holders = None;
         clear_points(&mut self.rows);
     }
 }

@@ -40,6 +40,7 @@ impl FileTable {
         let alloc = *self.rows.allocator();
         let room = mem::replace(&mut self.first_names, Vec::new(alloc));
         let entry = new_entry(alloc, id, only_name(room, name), hint, sparse, time);
+        self.holders = None;
         self.rows.push_reserved(Row::new(alloc, entry));
         self.greatest = id;
         Ok(id)

@@ -9,6 +9,7 @@ mod copies;
 mod create;
 mod error;
 mod extents;
+mod holders;
 mod lengths;
 mod links;
 mod locate;

@@ -39,6 +39,7 @@ impl FileTable {
             return Err(TableError::Exists);
         }
         let alloc = *self.rows.allocator();
+        self.holders = None;
         let room = mem::replace(&mut self.more_names, Vec::new(alloc));
         let row = &mut self.rows[at];
         row.add_name(new, room);
@@ -63,6 +64,7 @@ impl FileTable {
         let id = self.rows[at].id();
         match row_named(&self.rows, &new) {
             None => {
+                self.holders = None;
                 rename_row(&mut self.rows, id, old, new);
                 Ok(Moved::Done { id })
             }
@@ -70,6 +72,7 @@ impl FileTable {
                 if other.id() == id {
                     return Ok(Moved::Same);
                 }
+                self.holders = None;
                 take_names(&mut self.rows, slice::from_ref(&new));
                 rename_row(&mut self.rows, id, old, new);
                 Ok(Moved::Done { id })
@@ -100,6 +103,7 @@ impl FileTable {
             return Err(TableError::NotFound);
         };
         let id = row.id();
+        self.holders = None;
         take_names(&mut self.rows, slice::from_ref(name));
         Ok(id)
     }

@@ -26,6 +26,7 @@ impl FileTable {
             room: None,
             first_names: Vec::new(alloc),
             more_names: Vec::new(alloc),
+            holders: None,
         })
     }
 

@@ -2,6 +2,7 @@
 
 ghost use Rattle.std.specs.Prelude.{◌≡◌, []};
 
+use crate::holders::Holders;
 use crate::room::Room;
 use crate::row::Row;
 use record_model::Name;
@@ -22,6 +23,8 @@ pub struct FileTable {
     pub(crate) first_names: Vec<Name>,
     /// Room for all names of the file that `reserve` was last given, and one more.
     pub(crate) more_names: Vec<Name>,
+    /// Who has which name, where nothing was changed since but by records.
+    pub(crate) holders: Option<Holders>,
 }
 
 impl Model for FileTable {
@@ -30,6 +33,8 @@ impl Model for FileTable {
     ghost Value = { TableState };
 
     ghost use Rattle.std.specs.Prelude.{◌-◌, length, min, vec_capacity};
+    ghost use Rattle.std.specs.Option.{ForSome};
+    ghost use Rattle.extent_map.specs.Holding.{IsKept};
     ghost use Rattle.extent_map.specs.Naming.{names_within, reserved_row};
     ghost use Rattle.extent_map.specs.Spare.{spare_of};
 
@@ -42,7 +47,7 @@ impl Model for FileTable {
       reserved = t.reserved;
     } };
 
-    ghost invariant = { λ t. IsTableState t.rows.items t.greatest };
+    ghost invariant = { λ t. IsTableState t.rows.items t.greatest × ForSome t.holders (λ h. IsKept h t.rows.items) };
 }
 
 impl FileTable {
@@ -58,6 +63,7 @@ impl FileTable {
             room: None,
             first_names: Vec::new(alloc),
             more_names: Vec::new(alloc),
+            holders: None,
         }
     }
 }

@@ -1,9 +1,11 @@
 use Rattle.std.proofs.Common.{◌≡◌, ℕ, true, false, Ok, Some, None, option_map, List, [], ◌∷◌, ap, sym, subst, ◌∙◌}
 use Rattle.log_model.specs.FileTable.{file_of, is_among, take_names}
 use Rattle.fs_model.specs.FsState.{TableRow}
-use Rattle.extent_map.specs.Applying.{AreRecorded}
+use Rattle.extent_map.specs.Applying.{ArePlain}
+use Rattle.extent_map.specs.Holding.{AreKnown}
 use Rattle.extent_map.specs.Records.{recorded_of}
 use Rattle.extent_map.proofs.ApplyLaws.{file_recorded, delete_unknown, delete_known, unbroken, broken}
+use Rattle.extent_map.proofs.HolderLaws.{known_taken}
 use Rattle.extent_map.proofs.LinkLaws.{recorded_left}
 use Rattle.extent_map.proofs.SettingLaws.{all_fewer}
 use Rattle.extent_map.proofs.apply.delete.Goals as goal
@@ -37,6 +39,12 @@ returns-else-not-has_name-clause-made c =
     let left = ap recorded_of c.take_names.ensures.rows ∙ recorded_left c.from_ref.result.now rows ∙ ap (λ (names : List (List ℕ)). take_names names es) c.from_ref.ensures.value in
     delete_known c.args.id name file es some ∙ unbroken (is_among file.names name) 4 (take_names (name ∷ []) es) there ∙ ap Ok (sym left)
 
-pub returns-else-not-has_name-clause-recorded : goal.returns-else-not-has_name-clause-recorded
-returns-else-not-has_name-clause-recorded c =
-    subst AreRecorded (sym c.take_names.ensures.rows) (all_fewer c.from_ref.result.now c.args.rows.now.items c.requires.recorded)
+pub returns-else-not-has_name-clause-plain : goal.returns-else-not-has_name-clause-plain
+returns-else-not-has_name-clause-plain c =
+    subst ArePlain (sym c.take_names.ensures.rows) (all_fewer c.from_ref.result.now c.args.rows.now.items c.requires.plain)
+
+pub returns-else-not-has_name-clause-known : goal.returns-else-not-has_name-clause-known
+returns-else-not-has_name-clause-known c =
+    let rows = c.args.rows.now.items in
+    let left = ap recorded_of c.take_names.ensures.rows ∙ recorded_left c.from_ref.result.now rows in
+    subst (AreKnown c.args.holders) (sym left) (known_taken c.args.holders c.from_ref.result.now (recorded_of rows) c.requires.known)

@@ -15,6 +15,8 @@ invariant_of-self c =
     let made : row ≡ mounted_row (new_entry (greatest + 1) c.args.name c.args.hint c.args.sparse c.args.time) =
     c.new-2.ensures ∙ ap mounted_row (c.new_entry-entry.ensures c.args.name c.only_name.ensures) in
     let other = c.if-self.false in
-    let room : greatest < 2 ^ 64 - 2 = omega (arith, c.self.invariant.limit, other) in
-    subst (λ (new : List TableRow). IsTableState new (greatest + 1)) (sym c.push_reserved.ensures.items)
-    (created_state rows greatest row c.args.name c.self.invariant absent room (ap (λ (r : TableRow). r.entry.id) made) (ap (λ (r : TableRow). r.entry.names) made))
+    let room : greatest < 2 ^ 64 - 2 = omega (arith, c.self.invariant.0.limit, other) in (
+      subst (λ (new : List TableRow). IsTableState new (greatest + 1)) (sym c.push_reserved.ensures.items)
+          (created_state rows greatest row c.args.name c.self.invariant.0 absent room (ap (λ (r : TableRow). r.entry.id) made) (ap (λ (r : TableRow). r.entry.names) made)),
+      λ holders is. absurd cc,
+    )

@@ -29,7 +29,7 @@ add_name-requires-clause-room c =
     let row = c.index_mut-row.result.now in
     let view : rows ≡ shown = ap (λ (t : TableState). t.rows) c.self.view_is in
     let found : row_named c.args.old.now rows ≡ Some row = rw c.deref.ensures.value at (c.in-Some.ensures.row row) ∙ ap Some (sym c.index_mut-row.ensures.value) in
-    let there : row_of row.entry.id rows ≡ Some row = found_by_id 0 c.args.old.now rows row c.self.invariant.table.ids found in
+    let there : row_of row.entry.id rows ≡ Some row = found_by_id 0 c.args.old.now rows row c.self.invariant.0.table.ids found in
     let reserved = ap (λ (t : TableState). t.reserved) c.self.view_is ∙ c.requires.reserved row (ap (row_named c.args.old.now) (sym view) ∙ found) in
     let spare = ap (λ (t : TableState). t.names_spare) c.self.view_is in
     let room = spared_room (vec_capacity c.self.inside.more_names) (min (vec_capacity c.self.inside.rows - length rows) (vec_capacity c.self.inside.first_names))
@@ -57,11 +57,13 @@ invariant_of-self c =
     let absent : is_some (row_named c.args.new rows) ≡ false = ap is_some (sym other) ∙ copied_same c.row_named.result ∙ sym c.is_some.ensures ∙ c.if-is_some.false in
     let within = rw c.deref.ensures.value at c.in-Some.ensures.within in
     let changed : set rows c.in-Some.at c.add_name.new.self ≡ on_row row.entry.id (with_names more) rows =
-    changed_at row.entry.id (with_names more) rows c.self.inside.greatest c.in-Some.at row c.add_name.new.self c.self.invariant within c.index_mut-row.ensures.value
-    (ap (λ (r : TableRow). r.entry.id) (sym c.index_mut-row.ensures.value)) c.add_name.ensures in
-    subst (λ (new : List TableRow). IsTableState new c.self.inside.greatest) (sym changed)
-    (named_state rows c.self.inside.greatest row c.args.new more c.self.invariant (found_by_id 0 c.args.old.now rows row c.self.invariant.table.ids found)
-    (none_is (row_named c.args.new rows) absent) (let count = length-append row.entry.names (c.args.new ∷ []) in omega (arith, count)) (linked_or_new row.entry.names c.args.new))
+    changed_at row.entry.id (with_names more) rows c.self.inside.greatest c.in-Some.at row c.add_name.new.self c.self.invariant.0 within c.index_mut-row.ensures.value
+    (ap (λ (r : TableRow). r.entry.id) (sym c.index_mut-row.ensures.value)) c.add_name.ensures in (
+      subst (λ (new : List TableRow). IsTableState new c.self.inside.greatest) (sym changed)
+          (named_state rows c.self.inside.greatest row c.args.new more c.self.invariant.0 (found_by_id 0 c.args.old.now rows row c.self.invariant.0.table.ids found)
+          (none_is (row_named c.args.new rows) absent) (let count = length-append row.entry.names (c.args.new ∷ []) in omega (arith, count)) (linked_or_new row.entry.names c.args.new)),
+      λ holders is. absurd cc,
+    )
 
 pub returns-clause-rows : goal.returns-clause-rows
 returns-clause-rows c = λ x is.
@@ -72,6 +74,6 @@ returns-clause-rows c = λ x is.
     let found : row_named c.args.old.now rows ≡ Some row = rw c.deref.ensures.value at (c.in-Some.ensures.row row) ∙ ap Some (sym c.index_mut-row.ensures.value) in
     let within = rw c.deref.ensures.value at c.in-Some.ensures.within in
     let same : row ≡ x = some_is (sym found ∙ ap (row_named c.args.old.now) view ∙ is) in
-    changed_at row.entry.id (with_names more) rows c.self.inside.greatest c.in-Some.at row c.add_name.new.self c.self.invariant within c.index_mut-row.ensures.value
+    changed_at row.entry.id (with_names more) rows c.self.inside.greatest c.in-Some.at row c.add_name.new.self c.self.invariant.0 within c.index_mut-row.ensures.value
     (ap (λ (r : TableRow). r.entry.id) (sym c.index_mut-row.ensures.value)) c.add_name.ensures
     ∙ ap (linked_rows c.args.new row) view ∙ ap (λ (r : TableRow). linked_rows c.args.new r c.args.self.now.rows) same

@@ -23,7 +23,7 @@ returns-clause-lengths c = λ x is.
     let same : row ≡ x = some_is (found ∙ ap (row_named old) view ∙ is) in
     let more : List (List ℕ) = row.entry.names ++ new ∷ [] in
     let names : AreNamesOf c.linked_len-names.result more = rw (c.items.ensures, c.entry.ensures.value) at c.linked_len-names.ensures in
-    let all : rows_left [] c.deref-2.result.now ≡ shown = ap (rows_left []) c.deref-2.ensures.value ∙ all_rows rows c.self.invariant.table.named ∙ view in
+    let all : rows_left [] c.deref-2.result.now ≡ shown = ap (rows_left []) c.deref-2.ensures.value ∙ all_rows rows c.self.invariant.0.table.named ∙ view in
     subst (λ (r : TableRow). TellsLengths l (entry_update (with_names (r.entry.names ++ new ∷ []) r).entry) (linked_rows new r shown)) same
     (subst (λ (rs : List TableRow). TellsLengths l (entry_update (with_names more row).entry) (on_row row.entry.id (with_names more) rs)) all
     (c.lengths_after.ensures more names))
@@ -39,6 +39,6 @@ returns-clause-little c = λ x is.
     let found : Some row ≡ row_named old rows = rw (c.unwrap-row.ensures, c.deref.ensures.value) at c.row_named.ensures in
     let more : List (List ℕ) = row.entry.names ++ new ∷ [] in
     let longer : IsLittleLonger rows (linked_rows new row rows) (entry_update (with_names more row).entry) =
-    named_little old rows c.self.inside.greatest row more c.self.invariant (sym found) (linked_more row.entry.names new c.is_short.ensures) in
+    named_little old rows c.self.inside.greatest row more c.self.invariant.0 (sym found) (linked_more row.entry.names new c.is_short.ensures) in
     subst (λ (r : TableRow). IsLittleLonger shown (linked_rows new r shown) (entry_update (with_names (r.entry.names ++ new ∷ []) r).entry)) (some_is (found ∙ ap (row_named old) view ∙ is))
     (subst (λ (rs : List TableRow). IsLittleLonger rs (linked_rows new row rs) (entry_update (with_names more row).entry)) view longer)

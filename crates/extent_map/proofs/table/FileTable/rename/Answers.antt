@@ -14,7 +14,7 @@ rename_row-requires-clause-there c =
     let rows = c.self.inside.rows.items in
     let row = c.index.result.now in
     let found : row_named c.args.old.now rows ≡ Some row = rw c.deref.ensures.value at (c.in-Some.ensures.row row) ∙ ap Some (sym c.index.ensures) in
-    ap is_some (ap (λ i. row_of i rows) c.id-id.ensures ∙ found_by_id 0 c.args.old.now rows row c.self.invariant.table.ids found)
+    ap is_some (ap (λ i. row_of i rows) c.id-id.ensures ∙ found_by_id 0 c.args.old.now rows row c.self.invariant.0.table.ids found)
 
 pub invariant_of-self : goal.invariant_of-self
 invariant_of-self c =
@@ -22,12 +22,14 @@ invariant_of-self c =
     let row = c.index.result.now in
     let more : List (List ℕ) = renamed c.args.old.now c.args.new row.entry.names in
     let found : row_named c.args.old.now rows ≡ Some row = rw c.deref.ensures.value at (c.in-Some.ensures.row row) ∙ ap Some (sym c.index.ensures) in
-    let there : row_of row.entry.id rows ≡ Some row = found_by_id 0 c.args.old.now rows row c.self.invariant.table.ids found in
+    let there : row_of row.entry.id rows ≡ Some row = found_by_id 0 c.args.old.now rows row c.self.invariant.0.table.ids found in
     let unused : row_named c.args.new rows ≡ None = sym (rw c.deref-2.ensures.value at c.in-None.ensures) in
-    let made = c.rename_row.ensures row (ap (λ i. row_of i rows) c.id-id.ensures ∙ there) ∙ ap (λ i. on_row i (with_names more) rows) c.id-id.ensures in
-    subst (λ (new : List TableRow). IsTableState new c.self.inside.greatest) (sym made)
-    (named_state rows c.self.inside.greatest row c.args.new more c.self.invariant there unused
-    (renamed_some c.args.old.now c.args.new row.entry.names (has_name rows c.self.inside.greatest row c.self.invariant there)) (renamed_or_new c.args.old.now c.args.new row.entry.names))
+    let made = c.rename_row.ensures row (ap (λ i. row_of i rows) c.id-id.ensures ∙ there) ∙ ap (λ i. on_row i (with_names more) rows) c.id-id.ensures in (
+      subst (λ (new : List TableRow). IsTableState new c.self.inside.greatest) (sym made)
+          (named_state rows c.self.inside.greatest row c.args.new more c.self.invariant.0 there unused
+          (renamed_some c.args.old.now c.args.new row.entry.names (has_name rows c.self.inside.greatest row c.self.invariant.0 there)) (renamed_or_new c.args.old.now c.args.new row.entry.names)),
+      λ holders is. absurd cc,
+    )
 
 pub rename_row-requires-in-Some-row_named-clause-there : goal.rename_row-requires-in-Some-row_named-clause-there
 rename_row-requires-in-Some-row_named-clause-there c =
@@ -35,12 +37,12 @@ rename_row-requires-in-Some-row_named-clause-there c =
     let row = c.index.result.now in
     let other = c.in-Some-row_named.other.now in
     let found : row_named c.args.old.now rows ≡ Some row = rw c.deref.ensures.value at (c.in-Some.ensures.row row) ∙ ap Some (sym c.index.ensures) in
-    let there : row_of row.entry.id rows ≡ Some row = found_by_id 0 c.args.old.now rows row c.self.invariant.table.ids found in
+    let there : row_of row.entry.id rows ≡ Some row = found_by_id 0 c.args.old.now rows row c.self.invariant.0.table.ids found in
     let taken : row_named c.args.new rows ≡ Some other = sym (rw c.deref-2.ensures.value at c.in-Some-row_named.ensures) in
     let differs : row.entry.id ≢ other.entry.id = λ same. c.if-id.false (c.id.ensures ∙ sym same ∙ sym c.id-id.ensures) in
     let left : c.take_names.new.rows.items ≡ rows_left (c.args.new ∷ []) rows = c.take_names.ensures.rows ∙ ap (λ (names : List (List ℕ)). rows_left names rows) c.from_ref.ensures.value in
     ap is_some (ap (row_of c.id-id.result) left ∙ ap (λ i. row_of i (rows_left (c.args.new ∷ []) rows)) c.id-id.ensures
-    ∙ left_other rows c.self.inside.greatest row other c.args.new c.self.invariant there taken differs)
+    ∙ left_other rows c.self.inside.greatest row other c.args.new c.self.invariant.0 there taken differs)
 
 pub rename_row-requires-in-Some-row_named-clause-unused : goal.rename_row-requires-in-Some-row_named-clause-unused
 rename_row-requires-in-Some-row_named-clause-unused c =
@@ -50,7 +52,7 @@ rename_row-requires-in-Some-row_named-clause-unused c =
 
 pub rename_row-requires-in-Some-row_named-clause-ids : goal.rename_row-requires-in-Some-row_named-clause-ids
 rename_row-requires-in-Some-row_named-clause-ids c =
-    let state = left_state c.from_ref.result.now c.self.inside.rows.items c.self.inside.greatest c.self.invariant in
+    let state = left_state c.from_ref.result.now c.self.inside.rows.items c.self.inside.greatest c.self.invariant.0 in
     (subst (λ (new : List TableRow). IsTableState new c.self.inside.greatest) (sym c.take_names.ensures.rows) state).table.ids
 
 pub invariant_of-self-in-Some-row_named : goal.invariant_of-self-in-Some-row_named
@@ -62,16 +64,18 @@ invariant_of-self-in-Some-row_named c =
     let more : List (List ℕ) = renamed c.args.old.now c.args.new row.entry.names in
     let fewer : List TableRow = rows_left (c.args.new ∷ []) rows in
     let found : row_named c.args.old.now rows ≡ Some row = rw c.deref.ensures.value at (c.in-Some.ensures.row row) ∙ ap Some (sym c.index.ensures) in
-    let there : row_of row.entry.id rows ≡ Some row = found_by_id 0 c.args.old.now rows row c.self.invariant.table.ids found in
+    let there : row_of row.entry.id rows ≡ Some row = found_by_id 0 c.args.old.now rows row c.self.invariant.0.table.ids found in
     let taken : row_named c.args.new rows ≡ Some other = sym (rw c.deref-2.ensures.value at c.in-Some-row_named.ensures) in
     let differs : row.entry.id ≢ other.entry.id = λ same. c.if-id.false (c.id.ensures ∙ sym same ∙ sym c.id-id.ensures) in
     let left : c.take_names.new.rows.items ≡ fewer = c.take_names.ensures.rows ∙ ap (λ (names : List (List ℕ)). rows_left names rows) c.from_ref.ensures.value in
-    let stays : row_of row.entry.id fewer ≡ Some row = left_other rows greatest row other c.args.new c.self.invariant there taken differs in
+    let stays : row_of row.entry.id fewer ≡ Some row = left_other rows greatest row other c.args.new c.self.invariant.0 there taken differs in
     let made = c.rename_row-in-Some-row_named.ensures row (ap (row_of c.id-id.result) left ∙ ap (λ i. row_of i fewer) c.id-id.ensures ∙ stays)
-    ∙ ap (λ (rs : List TableRow). on_row c.id-id.result (with_names more) rs) left ∙ ap (λ i. on_row i (with_names more) fewer) c.id-id.ensures in
-    subst (λ (new : List TableRow). IsTableState new greatest) (sym made)
-    (named_state fewer greatest row c.args.new more (left_state (c.args.new ∷ []) rows greatest c.self.invariant) stays (left_unnamed c.args.new rows)
-    (renamed_some c.args.old.now c.args.new row.entry.names (has_name rows greatest row c.self.invariant there)) (renamed_or_new c.args.old.now c.args.new row.entry.names))
+    ∙ ap (λ (rs : List TableRow). on_row c.id-id.result (with_names more) rs) left ∙ ap (λ i. on_row i (with_names more) fewer) c.id-id.ensures in (
+      subst (λ (new : List TableRow). IsTableState new greatest) (sym made)
+          (named_state fewer greatest row c.args.new more (left_state (c.args.new ∷ []) rows greatest c.self.invariant.0) stays (left_unnamed c.args.new rows)
+          (renamed_some c.args.old.now c.args.new row.entry.names (has_name rows greatest row c.self.invariant.0 there)) (renamed_or_new c.args.old.now c.args.new row.entry.names)),
+      λ holders is. absurd cc,
+    )
 
 pub returns-in-None-clause-rows : goal.returns-in-None-clause-rows
 returns-in-None-clause-rows c = λ x is.
@@ -83,7 +87,7 @@ returns-in-None-clause-rows c = λ x is.
     let row = c.index.result.now in
     let more : List (List ℕ) = renamed old new row.entry.names in
     let found : row_named old rows ≡ Some row = rw c.deref.ensures.value at (c.in-Some.ensures.row row) ∙ ap Some (sym c.index.ensures) in
-    let there : row_of row.entry.id rows ≡ Some row = found_by_id 0 old rows row c.self.invariant.table.ids found in
+    let there : row_of row.entry.id rows ≡ Some row = found_by_id 0 old rows row c.self.invariant.0.table.ids found in
     let unused : row_named new rows ≡ None = sym (rw c.deref-2.ensures.value at c.in-None.ensures) in
     let same : row ≡ x = some_is (sym found ∙ ap (row_named old) view ∙ is) in
     c.rename_row.ensures row (ap (λ i. row_of i rows) c.id-id.ensures ∙ there)
@@ -104,11 +108,11 @@ returns-else-id-clause-rows c = λ x is.
     let more : List (List ℕ) = renamed old new row.entry.names in
     let fewer : List TableRow = rows_left (new ∷ []) rows in
     let found : row_named old rows ≡ Some row = rw c.deref.ensures.value at (c.in-Some.ensures.row row) ∙ ap Some (sym c.index.ensures) in
-    let there : row_of row.entry.id rows ≡ Some row = found_by_id 0 old rows row c.self.invariant.table.ids found in
+    let there : row_of row.entry.id rows ≡ Some row = found_by_id 0 old rows row c.self.invariant.0.table.ids found in
     let taken : row_named new rows ≡ Some other = sym (rw c.deref-2.ensures.value at c.in-Some-row_named.ensures) in
     let differs : row.entry.id ≢ other.entry.id = λ same. c.if-id.false (c.id.ensures ∙ sym same ∙ sym c.id-id.ensures) in
     let left : c.take_names.new.rows.items ≡ fewer = c.take_names.ensures.rows ∙ ap (λ (names : List (List ℕ)). rows_left names rows) c.from_ref.ensures.value in
-    let stays : row_of row.entry.id fewer ≡ Some row = left_other rows c.self.inside.greatest row other new c.self.invariant there taken differs in
+    let stays : row_of row.entry.id fewer ≡ Some row = left_other rows c.self.inside.greatest row other new c.self.invariant.0 there taken differs in
     let same : row ≡ x = some_is (sym found ∙ ap (row_named old) view ∙ is) in
     c.rename_row-in-Some-row_named.ensures row (ap (row_of c.id-id.result) left ∙ ap (λ i. row_of i fewer) c.id-id.ensures ∙ stays)
     ∙ ap (λ (rs : List TableRow). on_row c.id-id.result (with_names more) rs) left

@@ -32,7 +32,7 @@ returns-then-id-clause-lengths c = λ x is.
     let l = c.same_lengths.result in
     let view : rows ≡ shown = ap (λ (t : TableState). t.rows) c.self.view_is in
     let found : Some row ≡ row_named old rows = rw (c.unwrap-row.ensures, c.deref.ensures.value) at c.row_named.ensures in
-    let there : row_of row.entry.id rows ≡ Some row = found_by_id 0 old rows row c.self.invariant.table.ids (sym found) in
+    let there : row_of row.entry.id rows ≡ Some row = found_by_id 0 old rows row c.self.invariant.0.table.ids (sym found) in
     let taken : Some other ≡ row_named new rows = rw c.deref-2.ensures.value at c.in-Some.ensures in
     let ids : other.entry.id ≡ row.entry.id = sym c.id.ensures ∙ c.if-id.true ∙ c.id-in-Some.ensures in
     holds_shown (tells l) row x (Some other) old new rows shown taken view (some_is (found ∙ ap (row_named old) view ∙ is))
@@ -50,10 +50,10 @@ returns-in-None-clause-lengths c = λ x is.
     let more : List (List ℕ) = renamed old new row.entry.names in
     let view : rows ≡ shown = ap (λ (t : TableState). t.rows) c.self.view_is in
     let found : Some row ≡ row_named old rows = rw (c.unwrap-row.ensures, c.deref.ensures.value) at c.row_named.ensures in
-    let there : row_of row.entry.id rows ≡ Some row = found_by_id 0 old rows row c.self.invariant.table.ids (sym found) in
+    let there : row_of row.entry.id rows ≡ Some row = found_by_id 0 old rows row c.self.invariant.0.table.ids (sym found) in
     let unused : None ≡ row_named new rows = rw c.deref-2.ensures.value at c.in-None.ensures in
     let names : AreNamesOf c.renamed_len-names.result more = rw (c.items.ensures, c.entry.ensures.value) at c.renamed_len-names.ensures in
-    let all : rows_left [] c.deref-in-None.result.now ≡ rows = ap (rows_left []) c.deref-in-None.ensures.value ∙ all_rows rows c.self.invariant.table.named in
+    let all : rows_left [] c.deref-in-None.result.now ≡ rows = ap (rows_left []) c.deref-in-None.ensures.value ∙ all_rows rows c.self.invariant.0.table.named in
     holds_shown (tells l) row x None old new rows shown unused view (some_is (found ∙ ap (row_named old) view ∙ is))
     (named_holds (tells l rows) row more rows there
     (subst (λ (rs : List TableRow). TellsLengths l (entry_update (with_names more row).entry) (on_row row.entry.id (with_names more) rs)) all
@@ -71,14 +71,14 @@ returns-else-id-clause-lengths c = λ x is.
     let more : List (List ℕ) = renamed old new row.entry.names in
     let view : rows ≡ shown = ap (λ (t : TableState). t.rows) c.self.view_is in
     let found : Some row ≡ row_named old rows = rw (c.unwrap-row.ensures, c.deref.ensures.value) at c.row_named.ensures in
-    let there : row_of row.entry.id rows ≡ Some row = found_by_id 0 old rows row c.self.invariant.table.ids (sym found) in
+    let there : row_of row.entry.id rows ≡ Some row = found_by_id 0 old rows row c.self.invariant.0.table.ids (sym found) in
     let taken : Some other ≡ row_named new rows = rw c.deref-2.ensures.value at c.in-Some.ensures in
     let differs : row.entry.id ≢ other.entry.id = λ same. c.if-id.false (c.id.ensures ∙ sym same ∙ sym c.id-in-Some.ensures) in
     let names : AreNamesOf c.renamed_len-names.result more = rw (c.items.ensures, c.entry.ensures.value) at c.renamed_len-names.ensures in
     let left : rows_left c.from_ref.result.now c.deref-in-Some.result.now ≡ drop_name new rows =
     ap (rows_left c.from_ref.result.now) c.deref-in-Some.ensures.value ∙ ap (λ (ns : List (List ℕ)). rows_left ns rows) c.from_ref.ensures.value in
     holds_shown (tells l) row x (Some other) old new rows shown taken view (some_is (found ∙ ap (row_named old) view ∙ is))
-    (other_holds (tells l) row other old new rows (left_other rows c.self.inside.greatest row other new c.self.invariant there (sym taken) differs)
+    (other_holds (tells l) row other old new rows (left_other rows c.self.inside.greatest row other new c.self.invariant.0 there (sym taken) differs)
     (ne_eqb other.entry.id row.entry.id (λ same. differs (sym same)))
     (subst (λ (rs : List TableRow). TellsLengths l (entry_update (with_names more row).entry) (on_row row.entry.id (with_names more) rs)) left
     (c.lengths_after-in-Some.ensures more names)))
@@ -92,7 +92,7 @@ returns-then-id-clause-little c = λ x is.
     let row = c.unwrap-row.result.now in
     let view : rows ≡ shown = ap (λ (t : TableState). t.rows) c.self.view_is in
     let found : Some row ≡ row_named old rows = rw (c.unwrap-row.ensures, c.deref.ensures.value) at c.row_named.ensures in
-    let there : row_of row.entry.id rows ≡ Some row = found_by_id 0 old rows row c.self.invariant.table.ids (sym found) in
+    let there : row_of row.entry.id rows ≡ Some row = found_by_id 0 old rows row c.self.invariant.0.table.ids (sym found) in
     let same : row ≡ x = some_is (found ∙ ap (row_named old) view ∙ is) in
     let other = c.in-Some.other.now in
     let taken : Some other ≡ row_named new rows = rw c.deref-2.ensures.value at c.in-Some.ensures in
@@ -109,14 +109,14 @@ returns-in-None-clause-little c = λ x is.
     let row = c.unwrap-row.result.now in
     let view : rows ≡ shown = ap (λ (t : TableState). t.rows) c.self.view_is in
     let found : Some row ≡ row_named old rows = rw (c.unwrap-row.ensures, c.deref.ensures.value) at c.row_named.ensures in
-    let there : row_of row.entry.id rows ≡ Some row = found_by_id 0 old rows row c.self.invariant.table.ids (sym found) in
+    let there : row_of row.entry.id rows ≡ Some row = found_by_id 0 old rows row c.self.invariant.0.table.ids (sym found) in
     let same : row ≡ x = some_is (found ∙ ap (row_named old) view ∙ is) in
     let more : List (List ℕ) = renamed old new row.entry.names in
     let apart = subst (λ (e : FileEntry). AreApart e.names) c.entry.ensures.value c.entry.ensures.sound.apart in
     let longer = renamed_more old new row.entry.names apart c.is_short.ensures in
     let unused : None ≡ row_named new rows = rw c.deref-2.ensures.value at c.in-None.ensures in
     holds_shown IsLittleLonger row x None old new rows shown unused view same
-    (named_holds (IsLittleLonger rows) row more rows there (named_little old rows c.self.inside.greatest row more c.self.invariant (sym found) longer))
+    (named_holds (IsLittleLonger rows) row more rows there (named_little old rows c.self.inside.greatest row more c.self.invariant.0 (sym found) longer))
 
 pub returns-else-id-clause-little : goal.returns-else-id-clause-little
 returns-else-id-clause-little c = λ x is.
@@ -127,7 +127,7 @@ returns-else-id-clause-little c = λ x is.
     let row = c.unwrap-row.result.now in
     let view : rows ≡ shown = ap (λ (t : TableState). t.rows) c.self.view_is in
     let found : Some row ≡ row_named old rows = rw (c.unwrap-row.ensures, c.deref.ensures.value) at c.row_named.ensures in
-    let there : row_of row.entry.id rows ≡ Some row = found_by_id 0 old rows row c.self.invariant.table.ids (sym found) in
+    let there : row_of row.entry.id rows ≡ Some row = found_by_id 0 old rows row c.self.invariant.0.table.ids (sym found) in
     let same : row ≡ x = some_is (found ∙ ap (row_named old) view ∙ is) in
     let more : List (List ℕ) = renamed old new row.entry.names in
     let apart = subst (λ (e : FileEntry). AreApart e.names) c.entry.ensures.value c.entry.ensures.sound.apart in
@@ -135,7 +135,7 @@ returns-else-id-clause-little c = λ x is.
     let other = c.in-Some.other.now in
     let taken : Some other ≡ row_named new rows = rw c.deref-2.ensures.value at c.in-Some.ensures in
     let differs : row.entry.id ≢ other.entry.id = λ equal. c.if-id.false (c.id.ensures ∙ sym equal ∙ sym c.id-in-Some.ensures) in
-    let left = left_other rows c.self.inside.greatest row other new c.self.invariant there (sym taken) differs in
+    let left = left_other rows c.self.inside.greatest row other new c.self.invariant.0 there (sym taken) differs in
     holds_shown IsLittleLonger row x (Some other) old new rows shown taken view same
     (other_holds IsLittleLonger row other old new rows left (ne_eqb other.entry.id row.entry.id (λ equal. differs (sym equal)))
-    (taken_little old new rows c.self.inside.greatest row more c.self.invariant (sym found) left longer))
+    (taken_little old new rows c.self.inside.greatest row more c.self.invariant.0 (sym found) left longer))

@@ -24,7 +24,7 @@ returns-then-id c = λ x is.
     let u : Record = c.in_ok-update-in-Some.update in
     let view : rows ≡ shown = ap (λ (t : TableState). t.rows) c.self.view_is in
     let found : Some row ≡ row_named old rows = rw (c.unwrap-row.ensures, c.deref.ensures.value) at c.row_named.ensures in
-    let there : row_of row.entry.id rows ≡ Some row = found_by_id 0 old rows row c.self.invariant.table.ids (sym found) in
+    let there : row_of row.entry.id rows ≡ Some row = found_by_id 0 old rows row c.self.invariant.0.table.ids (sym found) in
     let taken : Some other ≡ row_named new rows = rw c.deref-2.ensures.value at c.in-Some.ensures in
     let ids : other.entry.id ≡ row.entry.id = sym c.id.ensures ∙ c.if-id.true ∙ c.id-in-Some.ensures in
     holds_shown (is_record u) row x (Some other) old new rows shown taken view (some_is (found ∙ ap (row_named old) view ∙ is))
@@ -40,7 +40,7 @@ returns-in_ok-update-in-None c = λ x is.
     let more : List (List ℕ) = renamed old new row.entry.names in
     let view : rows ≡ shown = ap (λ (t : TableState). t.rows) c.self.view_is in
     let found : Some row ≡ row_named old rows = rw (c.unwrap-row.ensures, c.deref.ensures.value) at c.row_named.ensures in
-    let there : row_of row.entry.id rows ≡ Some row = found_by_id 0 old rows row c.self.invariant.table.ids (sym found) in
+    let there : row_of row.entry.id rows ≡ Some row = found_by_id 0 old rows row c.self.invariant.0.table.ids (sym found) in
     let u : Record = c.in_ok-update-in-None.update in
     let unused : None ≡ row_named new rows = rw c.deref-2.ensures.value at c.in-None.ensures in
     holds_shown (is_record u) row x None old new rows shown unused view (some_is (found ∙ ap (row_named old) view ∙ is))
@@ -56,11 +56,11 @@ returns-in_ok-update-in-Some-2 c = λ x is.
     let more : List (List ℕ) = renamed old new row.entry.names in
     let view : rows ≡ shown = ap (λ (t : TableState). t.rows) c.self.view_is in
     let found : Some row ≡ row_named old rows = rw (c.unwrap-row.ensures, c.deref.ensures.value) at c.row_named.ensures in
-    let there : row_of row.entry.id rows ≡ Some row = found_by_id 0 old rows row c.self.invariant.table.ids (sym found) in
+    let there : row_of row.entry.id rows ≡ Some row = found_by_id 0 old rows row c.self.invariant.0.table.ids (sym found) in
     let other = c.in-Some.other.now in
     let u : Record = c.in_ok-update-in-Some-2.update in
     let taken : Some other ≡ row_named new rows = rw c.deref-2.ensures.value at c.in-Some.ensures in
     let differs : row.entry.id ≢ other.entry.id = λ same. c.if-id.false (c.id.ensures ∙ sym same ∙ sym c.id-in-Some.ensures) in
     holds_shown (is_record u) row x (Some other) old new rows shown taken view (some_is (found ∙ ap (row_named old) view ∙ is))
-    (other_holds (is_record u) row other old new rows (left_other rows c.self.inside.greatest row other new c.self.invariant there (sym taken) differs)
+    (other_holds (is_record u) row other old new rows (left_other rows c.self.inside.greatest row other new c.self.invariant.0 there (sym taken) differs)
     (ne_eqb other.entry.id row.entry.id (λ same. differs (sym same))) c.in_ok-update-in-Some-2.ensures)

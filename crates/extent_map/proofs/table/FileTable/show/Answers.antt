@@ -12,10 +12,12 @@ invariant_of-self c =
     let within = rw (c.unwrap-at.ensures, c.deref.ensures.value) at c.index_of.ensures.within in
     let id = rw (c.unwrap-at.ensures, c.deref.ensures.value) at c.index_of.ensures.id in
     let changed : set rows at c.show.new.self ≡ on_row c.args.id (shown_row c.args.time) rows =
-    changed_at c.args.id (shown_row c.args.time) rows c.self.inside.greatest at c.index_mut-row.result.now c.show.new.self c.self.invariant within c.index_mut-row.ensures.value
-    (id c.index_mut-row.result.now) c.show.ensures in
-    subst (λ (new : List TableRow). IsTableState new c.self.inside.greatest) (sym changed)
-    (kept_state c.args.id (shown_row c.args.time) rows c.self.inside.greatest (λ r. (refl, refl)) c.self.invariant)
+    changed_at c.args.id (shown_row c.args.time) rows c.self.inside.greatest at c.index_mut-row.result.now c.show.new.self c.self.invariant.0 within c.index_mut-row.ensures.value
+    (id c.index_mut-row.result.now) c.show.ensures in (
+      subst (λ (new : List TableRow). IsTableState new c.self.inside.greatest) (sym changed)
+          (kept_state c.args.id (shown_row c.args.time) rows c.self.inside.greatest (λ r. (refl, refl)) c.self.invariant.0),
+      λ holders is. absurd cc,
+    )
 
 pub returns-clause-rows : goal.returns-clause-rows
 returns-clause-rows c =
@@ -23,6 +25,6 @@ returns-clause-rows c =
     let at = c.unwrap-at.result in
     let within = rw (c.unwrap-at.ensures, c.deref.ensures.value) at c.index_of.ensures.within in
     let id = rw (c.unwrap-at.ensures, c.deref.ensures.value) at c.index_of.ensures.id in
-    changed_at c.args.id (shown_row c.args.time) rows c.self.inside.greatest at c.index_mut-row.result.now c.show.new.self c.self.invariant within c.index_mut-row.ensures.value
+    changed_at c.args.id (shown_row c.args.time) rows c.self.inside.greatest at c.index_mut-row.result.now c.show.new.self c.self.invariant.0 within c.index_mut-row.ensures.value
     (id c.index_mut-row.result.now) c.show.ensures
     ∙ ap (λ (t : TableState). on_row c.args.id (shown_row c.args.time) t.rows) c.self.view_is
