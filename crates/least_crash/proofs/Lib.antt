@@ -1,0 +1,3 @@
+pub mod FillLaws
+pub mod FrameOne
+pub mod LeastLaws
