@@ -11,7 +11,7 @@ use Rattle.log_model.proofs.FrameLaws.{frames_stay_in_order}
 use Rattle.least_crash.specs.Least.{least_crash, LeastIsWithin, CrashFramesBetween}
 
 -- the blocks that it leaves of a zone
-least_zone : (zs : List Zone) (n : ℕ) → (zone_in (zones_crashed zs []) n).blocks ≡ take (blocks_left (zone_in zs n) 0) (zone_in zs n).blocks
+pub least_zone : (zs : List Zone) (n : ℕ) → (zone_in (zones_crashed zs []) n).blocks ≡ take (blocks_left (zone_in zs n) 0) (zone_in zs n).blocks
 least_zone [] n = refl
 least_zone (z ∷ zs) zero = refl
 least_zone (z ∷ zs) (suc n) = least_zone zs n

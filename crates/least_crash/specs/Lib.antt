@@ -1,2 +1,4 @@
 pub mod Filling
 pub mod Least
+pub mod Recovery
+pub mod DataSteps

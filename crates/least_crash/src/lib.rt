@@ -3,4 +3,6 @@
 #![tactic(auto)]
 
 pub mod frames;
+pub mod growing;
 pub mod least;
+pub mod recovery;
