@@ -99,7 +99,7 @@ append_rest i zone added log greatest es rest valid data_zone pinned =
     }
 
 -- the same is found of all files
-found_alike : (i : Image) (zone : ℕ) (added : List (List ℕ)) (es : Table) → HasNoPoint i zone es → map (recovered_entry (appended i zone added)) es ≡ map (recovered_entry i) es
+pub found_alike : (i : Image) (zone : ℕ) (added : List (List ℕ)) (es : Table) → HasNoPoint i zone es → map (recovered_entry (appended i zone added)) es ≡ map (recovered_entry i) es
 found_alike i zone added [] away = refl
 found_alike i zone added (e ∷ es) away =
     let k = appended i zone added in

@@ -37,7 +37,7 @@ sized j n is = zone j.zones n is.zones
     zone (z ∷ zs) (suc m) all = zone zs m (All-tail (IsZone j.geometry) z zs all)
 
 -- the extents are written
-pub AreWritten : Image → List Extent → Type 0
+abbrev pub AreWritten : Image → List Extent → Type 0
 AreWritten j xs = AllByRecursion (λ x. is_written j x ≡ true) xs
 
 -- an extent that is written in what is left has the bytes that it had
@@ -48,14 +48,12 @@ bytes_same i j fronts valid x written =
 
 -- so have all of them
 pub all_same : (i j : Image) → KeepsFronts i j → IsValidImage j → (xs : List Extent) → AreWritten j xs → bytes_of j xs ≡ bytes_of i xs
-unfolding AreWritten
 all_same i j fronts valid [] h = refl
 all_same i j fronts valid (x ∷ xs) h =
     ap (λ bs. bs ++ bytes_of j xs) (bytes_same i j fronts valid x h.0) ∙ ap (λ bs. extent_bytes i x ++ bs) (all_same i j fronts valid xs h.1)
 
 -- durable extents are written where what is durable is kept
 pub durable_written : (i j : Image) → KeepsDurable i j → (xs : List Extent) → list_all (is_durable i) xs ≡ true → AreWritten j xs
-unfolding AreWritten
 durable_written i j keeps [] h = tt
 durable_written i j keeps (x ∷ xs) h =
     let parts = and_parts (is_durable i x) (list_all (is_durable i) xs) h in
@@ -63,7 +61,6 @@ durable_written i j keeps (x ∷ xs) h =
 
 -- what is found is written
 pub found_written : (j : Image) (e : FileEntry) → IsValidImage j → AreWritten j (recovered_extents j e)
-unfolding AreWritten
 found_written j e valid = each (recovered_extents j e) (found_is_written j e valid)
   where
     each : (xs : List Extent) → AllByRecursion (IsWrittenIn j (zone_of j.geometry e.active)) xs → AllByRecursion (λ x. is_written j x ≡ true) xs

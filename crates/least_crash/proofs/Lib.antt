@@ -5,3 +5,6 @@ pub mod Fronts
 pub mod Appending
 pub mod RecoveryLaws
 pub mod DataSteps
+pub mod Apart
+pub mod FramesApart
+pub mod FrameSteps

@@ -50,7 +50,7 @@ crash_lies_between i j es is crash table pinned =
     (kept_recovers i j es is valid keeps table pinned)
 
 -- the table of an image at rest
-table_at_rest : (i : Image) (log : LogAt) (greatest : ℕ) (es : Table) → IsAtRest i log greatest es → IsTable es
+pub table_at_rest : (i : Image) (log : LogAt) (greatest : ℕ) (es : Table) → IsAtRest i log greatest es → IsTable es
 table_at_rest i log greatest es rest = replay_makes_table (drop 1 log.scan.payloads) es rest.table.table
 
 pub crash_recovers : CrashRecovers
