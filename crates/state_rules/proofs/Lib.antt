@@ -1,0 +1,2 @@
+pub mod FewerRows
+pub mod NameRules

@@ -1,0 +1,5 @@
+//! Rules that the tables of every mounted file system keep, and laws that each step of the model keeps them. Each
+//! function does nothing, and its contract is a law.
+#![tactic(auto)]
+
+pub mod names;
