@@ -1,2 +1,4 @@
 pub mod FewerRows
 pub mod NameRules
+pub mod OwnerLaws
+pub mod ZoneRules

@@ -1,2 +1,3 @@
 pub mod Rules
 pub mod NameRules
+pub mod ZoneRules

@@ -3,3 +3,5 @@
 #![tactic(auto)]
 
 pub mod names;
+pub mod owners;
+pub mod zones;
