@@ -2,3 +2,5 @@ pub mod FewerRows
 pub mod NameRules
 pub mod OwnerLaws
 pub mod ZoneRules
+pub mod RowChanges
+pub mod DataRules

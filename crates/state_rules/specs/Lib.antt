@@ -1,3 +1,4 @@
 pub mod Rules
 pub mod NameRules
 pub mod ZoneRules
+pub mod DataRules

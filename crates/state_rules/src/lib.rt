@@ -2,6 +2,7 @@
 //! function does nothing, and its contract is a law.
 #![tactic(auto)]
 
+pub mod data;
 pub mod names;
 pub mod owners;
 pub mod zones;
