@@ -4,3 +4,5 @@ pub mod OwnerLaws
 pub mod ZoneRules
 pub mod RowChanges
 pub mod DataRules
+pub mod GrownLaws
+pub mod NoteRules

@@ -2,3 +2,4 @@ pub mod Rules
 pub mod NameRules
 pub mod ZoneRules
 pub mod DataRules
+pub mod NoteRules

@@ -1,5 +1,6 @@
 //! Laws of steps on the data of a file: each keeps the rules of a state.
 ghost use Rattle.state_rules.specs.DataRules.{CommitKeepsRules, PointKeepsRules, ShowKeepsRules, ClearKeepsRules, MoveKeepsRules};
+ghost use Rattle.state_rules.specs.NoteRules.{NoteKeepsRules};
 
 /// A commit keeps the rules.
 pub fn law_commit_keeps_rules()
@@ -24,4 +25,9 @@ pub fn law_clear_keeps_rules()
 /// So do extents that the collector moves to its own zone.
 pub fn law_move_keeps_rules()
     ensures { MoveKeepsRules }
+{}
+
+/// So does an extent that a file's writer notes behind all that lies in its zone.
+pub fn law_note_keeps_rules()
+    ensures { NoteKeepsRules }
 {}
