@@ -2,9 +2,16 @@
 //! script's own head has the words of its language.
 #![tactic(auto)]
 
+mod blocks;
+mod changes;
 mod commands;
+mod crashes;
 mod devices;
+mod logs;
 mod machine;
+mod marks;
+mod mounts;
+mod rounds;
 mod script;
 mod steps;
 mod texts;

@@ -1,4 +1,5 @@
 // The lines of a script, and how far it is played.
+use crate::texts::written_out;
 use std::alloc::{AllocError, Global};
 
 /// A script.
@@ -54,10 +55,10 @@ impl Script {
     pub fn answer(&mut self, alloc: Global) -> Result<String, AllocError> {
         let mut text = String::new(alloc);
         for _ in 0..self.lines.len() {
-            let Some(line) = self.line().strip_prefix("= ") else {
+            let Some(line) = self.line().trim_start().strip_prefix("= ") else {
                 break;
             };
-            text.push_str(line)?;
+            text.push_str(written_out(alloc, line)?.as_str())?;
             text.push_str("\n")?;
             self.at = self.at.wrapping_add(1);
         }
