@@ -20,14 +20,9 @@ const NARROW: Geometry = Geometry {
     ..SHAPE
 };
 
-// A device on which all zones are empty.
-fn empty(alloc: Global) -> Result<MemZones, AllocError> {
-    MemZones::new(alloc, SHAPE, Vec::new(alloc))
-}
-
 /// Makes a device on which all zones are empty.
 pub fn make_empty(alloc: Global, machine: &mut Machine) -> Result<String, AllocError> {
-    machine.dev = Some(empty(alloc)?);
+    machine.dev = Some(MemZones::new(alloc, SHAPE, Vec::new(alloc))?);
     quiet(alloc)
 }
 
@@ -97,7 +92,7 @@ pub fn take_saved(alloc: Global, machine: &mut Machine, name: &str) -> Result<St
 /// Makes a device whose zone 0 has the log, all of it durable.
 pub fn put_log(alloc: Global, machine: &mut Machine) -> Result<String, AllocError> {
     let log = machine.log.as_slice();
-    let mut dev = empty(alloc)?;
+    let mut dev = MemZones::new(alloc, SHAPE, Vec::new(alloc))?;
     match log.len() {
         1536 => dev.put(0, log, 3, false),
         2048 => dev.put(0, log, 4, false),
@@ -124,7 +119,7 @@ pub fn put_logs(alloc: Global, machine: &mut Machine) -> Result<String, AllocErr
 
 // A device with two blocks in each of the zones 0 and 1.
 fn two_short(alloc: Global, first: &[u8], second: &[u8]) -> Result<MemZones, AllocError> {
-    let mut dev = empty(alloc)?;
+    let mut dev = MemZones::new(alloc, SHAPE, Vec::new(alloc))?;
     if first.len() == 1024 && second.len() == 1024 {
         dev.put(0, first, 2, false);
         dev.put(1, second, 2, false);
@@ -134,7 +129,7 @@ fn two_short(alloc: Global, first: &[u8], second: &[u8]) -> Result<MemZones, All
 
 // A device with three blocks in each of the zones 0 and 1.
 fn two_long(alloc: Global, first: &[u8], second: &[u8]) -> Result<MemZones, AllocError> {
-    let mut dev = empty(alloc)?;
+    let mut dev = MemZones::new(alloc, SHAPE, Vec::new(alloc))?;
     if first.len() == 1536 && second.len() == 1536 {
         dev.put(0, first, 3, false);
         dev.put(1, second, 3, false);
@@ -148,7 +143,7 @@ pub fn put_with_files(alloc: Global, machine: &mut Machine) -> Result<String, Al
     if log.len() != 1536 {
         return said(alloc, "no such log");
     }
-    let mut dev = empty(alloc)?;
+    let mut dev = MemZones::new(alloc, SHAPE, Vec::new(alloc))?;
     dev.put(1, log, 3, false);
     dev.put(3, &[1; 1024], 2, false);
     dev.put(4, &[2; 512], 1, false);

@@ -37,6 +37,9 @@ pub fn mount_write(alloc: Global, machine: &mut Machine) -> Result<String, Alloc
     let Some(fs) = &mut machine.fs else {
         return said(alloc, "not mounted");
     };
+    if fs.writing() {
+        return said(alloc, "it writes already");
+    }
     let answer = fs.mount_write(alloc);
     done(alloc, machine, answer)
 }
