@@ -7,4 +7,5 @@ pub mod RecoveryLaws
 pub mod DataSteps
 pub mod Apart
 pub mod FramesApart
+pub mod Sides
 pub mod FrameSteps

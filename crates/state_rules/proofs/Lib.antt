@@ -6,3 +6,6 @@ pub mod RowChanges
 pub mod DataRules
 pub mod GrownLaws
 pub mod NoteRules
+pub mod UnbrokenLaws
+pub mod TokenCounts
+pub mod Tokens

@@ -3,3 +3,5 @@ pub mod NameRules
 pub mod ZoneRules
 pub mod DataRules
 pub mod NoteRules
+pub mod Unbroken
+pub mod Tokens

@@ -5,4 +5,5 @@
 pub mod data;
 pub mod names;
 pub mod owners;
+pub mod unbroken;
 pub mod zones;

@@ -1,6 +1,7 @@
 //! Laws of zones that are taken and given back, and of writers that are opened and closed: each keeps the rules of a
 //! state.
 ghost use Rattle.state_rules.specs.ZoneRules.{TakeKeepsRules, DestinationKeepsRules, VictimKeepsRules, GiveBackKeepsRules, RetireKeepsRules, OpenKeepsRules, CloseKeepsRules};
+ghost use Rattle.state_rules.specs.Tokens.{TakeLeavesToken};
 
 /// A zone that nobody holds may be taken for an open writer that has none.
 pub fn law_take_keeps_rules()
@@ -35,4 +36,9 @@ pub fn law_open_keeps_rules()
 /// So does one that is closed and holds no zone.
 pub fn law_close_keeps_rules()
     ensures { CloseKeepsRules }
+{}
+
+/// The zone that is chosen for a writer, whichever it is, leaves one active-zone token at least once it is opened.
+pub fn law_take_leaves_token()
+    ensures { TakeLeavesToken }
 {}
