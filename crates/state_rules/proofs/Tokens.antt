@@ -1,12 +1,12 @@
 -- A zone that is taken for a writer leaves one active-zone token at least.
-use Rattle.std.specs.Prelude.{◌≡◌, ⊤, ℕ, zero, suc, ◌+◌, ◌-◌, ◌≤◌, min, Bool, true, false, not, ◌&&◌, ◌||◌, ◌==◌, nat_lt, nat_le, List, [], ◌∷◌, map, filter, drop, Option, Some, None, refl, if◌then◌else◌}
+use Rattle.std.specs.Prelude.{◌≡◌, ⊤, ℕ, suc, ◌+◌, ◌-◌, ◌≤◌, Bool, true, false, not, ◌&&◌, ◌||◌, ◌==◌, nat_lt, List, [], ◌∷◌, map, filter, drop, Option, Some, None, refl, if◌then◌else◌}
 use Rattle.std.specs.List.{AllByRecursion, enumerate_from}
-use Rattle.std.proofs.Common.{sym, ◌∙◌, ap, subst, arith}
+use Rattle.std.proofs.Common.{sym, ◌∙◌, ap, arith}
 use Rattle.std.proofs.lemmas.Bool.{leb-true, and_parts, and_from}
 use Rattle.fs_model.specs.declared.policy.Choice.{Choice}
 use Rattle.fs_model.specs.declared.policy.Choice.TheVariants as choices
 use Rattle.fs_model.specs.declared.zones.Owner.TheVariants.{Writer}
-use Rattle.fs_model.specs.ZonePolicy.{Numbered, data_zones, is_idle, is_open, has_blocks, is_empty, is_idle_active, lesser, least, first, or_else, take_zone, fresh_zone, finish_for, choice_among, choice_or, choose_zone, tokens_taken, collectors_token, token_is_free, empty_is_allowed, zone_difference, room_of}
+use Rattle.fs_model.specs.ZonePolicy.{Numbered, data_zones, is_idle, is_open, has_blocks, is_idle_active, lesser, least, first, or_else, take_zone, fresh_zone, finish_for, choice_among, choice_or, choose_zone, tokens_taken, collectors_token, token_is_free, empty_is_allowed, zone_difference, room_of}
 use Rattle.fs_model.specs.FsState.{FsState, ZoneDescriptor, descriptor_at, descriptor_in, on_descriptor, state_of, zone_states, collects}
 use Rattle.fs_model.specs.LogSteps.{finish_zone, open_zone}
 use Rattle.fs_model.specs.FileSteps.{take_chosen}

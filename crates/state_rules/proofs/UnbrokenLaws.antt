@@ -1,10 +1,8 @@
 -- A table that keeps the rules breaks none on an image where all that it records is written.
 use Rattle.std.specs.Prelude.{◌≡◌, ◌≢◌, ℕ, zero, suc, ◌+◌, ◌*◌, ◌%◌, ◌<◌, ◌≤◌, Bool, true, false, not, ◌&&◌, ◌||◌, cond, List, [], ◌∷◌, ◌++◌, length, map, Option, Some, None, nat_le, nat_lt, ◌==◌, if◌then◌else◌, refl}
 use Rattle.std.proofs.Common.{◌∙◌, ap, sym, subst, inl, inr, arith}
-use mathlib.Core.Logic.{◌⊎◌}
-use Rattle.std.proofs.lemmas.Bool.{le-leb, lt-ltb, eq-eqb, ne_eqb, eqb-false, and_parts, and_from, false≢true}
+use Rattle.std.proofs.lemmas.Bool.{le-leb, lt-ltb, eq-eqb, ne_eqb, eqb-false, and_parts, and_from}
 use Rattle.std.specs.List.{AllByRecursion, AllZip, list_any, list_all}
-use Rattle.zone_image.specs.declared.Geometry.{Geometry}
 use Rattle.zone_image.specs.Image.{Zone, Image, zone_at, zone_in, zone_of, offset_of}
 use Rattle.zone_image.specs.Infos.{IsValidImage}
 use Rattle.zone_image.proofs.InfoLaws.{some_block}
@@ -12,7 +10,7 @@ use Rattle.record_model.specs.declared.types.Extent.{Extent}
 use Rattle.record_model.specs.declared.types.FileEntry.{FileEntry}
 use Rattle.log_model.specs.FileTable.{Table}
 use Rattle.log_model.specs.Frames.{no_active, frames_at, rest_at, is_recovery_point, recovered_extents}
-use Rattle.log_model.specs.Mounted.{is_written, share_a_byte, overlap, all_extents, recovered_entry, has_valid_recovery_point, broken_rule}
+use Rattle.log_model.specs.Mounted.{is_written, share_a_byte, overlap, all_extents, recovered_entry, has_valid_recovery_point}
 use Rattle.log_model.specs.TableLaws.{IdsRise}
 use Rattle.fs_model.specs.declared.zones.Owner.{Owner}
 use Rattle.fs_model.specs.declared.zones.Owner.TheVariants.{Idle, Writer}
@@ -27,8 +25,8 @@ use Rattle.least_crash.proofs.Apart.{AreApart, any_both, any_split, all_append, 
 use Rattle.least_crash.proofs.FramesApart.{recovered_apart}
 use Rattle.least_crash.proofs.Fronts.{AreWritten}
 use Rattle.least_crash.proofs.Sides.{IsOutside, none_inside, inside_apart, recorded_outside, found_outside, found_inside}
-use Rattle.state_rules.specs.Rules.{owner_in, EndBefore, OwnerRules, KeepsRules}
-use Rattle.state_rules.specs.Unbroken.{PointLies, PointRules, HasRecorded, RulesUnbroken}
+use Rattle.state_rules.specs.Rules.{owner_in, KeepsRules}
+use Rattle.state_rules.specs.Unbroken.{PointLies, HasRecorded, RulesUnbroken}
 
 -- ---- what is found shares no byte with anything
 

@@ -1,5 +1,5 @@
 -- A table that keeps the rules breaks none on an image where all that it records is written.
-use Rattle.std.specs.Prelude.{◌≡◌, ◌≢◌, ℕ, ◌*◌, ◌%◌, ◌≤◌, true, List, None}
+use Rattle.std.specs.Prelude.{◌≡◌, ◌≢◌, ◌*◌, ◌%◌, ◌≤◌, true, List, None}
 use Rattle.std.specs.List.{AllByRecursion, AllZip, list_all}
 use Rattle.zone_image.specs.declared.Geometry.{Geometry}
 use Rattle.zone_image.specs.Image.{Image, zone_of, offset_of}
