@@ -9,3 +9,4 @@ pub mod NoteRules
 pub mod UnbrokenLaws
 pub mod TokenCounts
 pub mod Tokens
+pub mod PointLaws

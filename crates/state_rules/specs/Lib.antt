@@ -5,3 +5,4 @@ pub mod DataRules
 pub mod NoteRules
 pub mod Unbroken
 pub mod Tokens
+pub mod Points

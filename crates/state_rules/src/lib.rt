@@ -5,5 +5,6 @@
 pub mod data;
 pub mod names;
 pub mod owners;
+pub mod points;
 pub mod unbroken;
 pub mod zones;
