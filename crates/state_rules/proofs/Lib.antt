@@ -10,3 +10,4 @@ pub mod UnbrokenLaws
 pub mod TokenCounts
 pub mod Tokens
 pub mod PointLaws
+pub mod WritingLaws

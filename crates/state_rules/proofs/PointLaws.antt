@@ -103,7 +103,7 @@ written_grows zero (suc m) f (z ∷ zs) grows = omega arith
 written_grows (suc n) zero f (z ∷ zs) grows = omega arith
 written_grows (suc n) (suc m) f (z ∷ zs) grows = written_grows n m f zs grows
 
-points_stay : (g : Geometry) (zones : List ZoneDescriptor) (all es : Table) (zone : ℕ) (f : ZoneDescriptor → ZoneDescriptor) → ((z : ZoneDescriptor) → (f z).owner ≡ z.owner)
+pub points_stay : (g : Geometry) (zones : List ZoneDescriptor) (all es : Table) (zone : ℕ) (f : ZoneDescriptor → ZoneDescriptor) → ((z : ZoneDescriptor) → (f z).owner ≡ z.owner)
     → ((z : ZoneDescriptor) → z.info.written ≤ (f z).info.written) → AllByRecursion (λ e. e.active ≢ no_active → PointLies g zones all e) es
     → AllByRecursion (λ e. e.active ≢ no_active → PointLies g (on_descriptor zone f zones) all e) es
 points_stay g zones all [] zone f same grows h = tt

@@ -21,7 +21,7 @@ use Rattle.state_rules.specs.ZoneRules.{AppendKeepsRules, FinishKeepsRules, Rese
 use Rattle.state_rules.proofs.OwnerLaws.{same_count, owners_stay, Given, owner_given, owners_given, owners_same, fresh_owners, fresh_given, nothing_fresh}
 
 -- a step on a zone that leaves its owner
-info_keeps : (n : ℕ) (f : ZoneDescriptor → ZoneDescriptor) (s : FsState) → ((z : ZoneDescriptor) → (f z).owner ≡ z.owner) → KeepsRules s
+pub info_keeps : (n : ℕ) (f : ZoneDescriptor → ZoneDescriptor) (s : FsState) → ((z : ZoneDescriptor) → (f z).owner ≡ z.owner) → KeepsRules s
     → KeepsRules (record s { zones = on_descriptor n f s.zones })
 info_keeps n f s same h = record {
   device = record { valid = h.device.valid; count = same_count n f s.zones ∙ h.device.count; log_zone = h.device.log_zone; flags = h.device.flags };

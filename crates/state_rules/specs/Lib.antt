@@ -6,3 +6,4 @@ pub mod NoteRules
 pub mod Unbroken
 pub mod Tokens
 pub mod Points
+pub mod WritingRules

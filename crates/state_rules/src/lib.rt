@@ -7,4 +7,5 @@ pub mod names;
 pub mod owners;
 pub mod points;
 pub mod unbroken;
+pub mod writing;
 pub mod zones;
