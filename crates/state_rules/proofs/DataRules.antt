@@ -85,7 +85,7 @@ elsewhere g zones es id other x (y ∷ ys) apart owner h = (
 )
 
 -- so of all that a commit records
-behind_committed : (g : Geometry) (zones : List ZoneDescriptor) (es : Table) (id now other : ℕ) (x : Extent) (rows : List TableRow) → id ≢ other → owner_in zones (zone_of g x.start) ≡ Writer other
+pub behind_committed : (g : Geometry) (zones : List ZoneDescriptor) (es : Table) (id now other : ℕ) (x : Extent) (rows : List TableRow) → id ≢ other → owner_in zones (zone_of g x.start) ≡ Writer other
     → FreshRules g zones es rows → EndBefore g x.start (entries rows) → EndBefore g x.start (entries (on_row id (committed now) rows))
 behind_committed g zones es id now other x [] apart owner fresh before = tt
 behind_committed g zones es id now other x (q ∷ qs) apart owner fresh before =

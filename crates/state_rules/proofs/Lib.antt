@@ -11,3 +11,4 @@ pub mod TokenCounts
 pub mod Tokens
 pub mod PointLaws
 pub mod WritingLaws
+pub mod WritingData

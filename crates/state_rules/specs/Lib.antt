@@ -7,3 +7,4 @@ pub mod Unbroken
 pub mod Tokens
 pub mod Points
 pub mod WritingRules
+pub mod WritingData
