@@ -122,7 +122,7 @@ commit_keeps_rules s r now h is time =
 -- ---- steps that record no other extents
 
 -- the same extents are recorded
-recorded_same : (id : ℕ) (change : TableRow → TableRow) (rows : List TableRow) → ((q : TableRow) → (change q).entry.extents ≡ q.entry.extents)
+pub recorded_same : (id : ℕ) (change : TableRow → TableRow) (rows : List TableRow) → ((q : TableRow) → (change q).entry.extents ≡ q.entry.extents)
     → all_extents (entries (on_row id change rows)) ≡ all_extents (entries rows)
 recorded_same id change [] same = refl
 recorded_same id change (q ∷ qs) same =
