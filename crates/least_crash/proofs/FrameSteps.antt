@@ -1,9 +1,8 @@
 -- A data zone grows behind the recovery point of one file.
-use Rattle.std.specs.Prelude.{◌≡◌, ◌≢◌, ℕ, ◌+◌, ◌<◌, ◌≤◌, Bool, true, false, not, ◌||◌, cond, List, [], ◌∷◌, ◌++◌, map, ◌==◌, refl}
-use Rattle.std.proofs.Common.{◌∙◌, ap, sym, arith}
-use Rattle.std.proofs.lemmas.Bool.{eqb-true, eqb-false, or_from}
+use Rattle.std.specs.Prelude.{◌≡◌, ◌≢◌, ℕ, ◌+◌, ◌<◌, ◌≤◌, Bool, true, false, List, [], ◌∷◌, ◌++◌, map, ◌==◌, refl}
+use Rattle.std.proofs.Common.{◌∙◌, ap, arith}
+use Rattle.std.proofs.lemmas.Bool.{eqb-true, eqb-false}
 use Rattle.std.specs.List.{AllByRecursion, list_any}
-use Rattle.zone_image.specs.declared.Geometry.{Geometry}
 use Rattle.zone_image.specs.Image.{Image, zone_of}
 use Rattle.zone_image.specs.Changes.{appended}
 use Rattle.zone_image.specs.Infos.{IsValidImage}
@@ -12,16 +11,14 @@ use Rattle.zone_image.proofs.InfoLaws.{some_block}
 use Rattle.record_model.specs.declared.types.Extent.{Extent}
 use Rattle.record_model.specs.declared.types.FileEntry.{FileEntry}
 use Rattle.log_model.specs.FileTable.{Table}
-use Rattle.log_model.specs.Frames.{no_active, frames_at, rest_at, is_recovery_point, recovered_extents}
+use Rattle.log_model.specs.Frames.{recovered_extents}
 use Rattle.log_model.specs.Mounted.{is_written, share_a_byte, overlap, all_extents, recovered_entry}
 use Rattle.log_model.specs.TableLaws.{IdsRise}
 use Rattle.crash_cover.specs.SameData.{RecoversElsewhere}
-use Rattle.crash_cover.specs.FoundExtents.{IsWrittenIn}
-use Rattle.crash_cover.proofs.FoundLaws.{found_is_written}
 use Rattle.least_crash.specs.Recovery.{RecoversTable}
 use Rattle.least_crash.specs.DataSteps.{HasNoPoint, GrowsBehindPoint, FrameKeepsRest, FrameMomentRecovers}
-use Rattle.least_crash.proofs.Apart.{AreApart, IsBounded, any_both, any_split, all_append, all_split, join_apart, split_apart, ends_before, begins_behind, written_bounded, zones_apart}
-use Rattle.least_crash.proofs.FramesApart.{BeginsAt, recovered_begin, recovered_apart}
+use Rattle.least_crash.proofs.Apart.{AreApart, any_both, any_split, all_append, all_split, join_apart, split_apart}
+use Rattle.least_crash.proofs.FramesApart.{recovered_apart}
 use Rattle.least_crash.proofs.Sides.{IsOutside, none_inside, outside_apart, inside_apart, recorded_outside, found_outside, found_inside}
 use Rattle.least_crash.proofs.Fronts.{AreWritten, durable_written}
 use Rattle.least_crash.proofs.Appending.{keeps_itself, append_elsewhere, append_least, found_same}

@@ -1,24 +1,23 @@
 -- What the rules of recovery points give to an append, and that an append and a finish keep them.
-use Rattle.std.specs.Prelude.{◌≡◌, ◌≢◌, ℕ, zero, suc, ◌+◌, ◌*◌, ◌≤◌, List, [], ◌∷◌, Some, refl, ◌==◌}
+use Rattle.std.specs.Prelude.{◌≡◌, ◌≢◌, ℕ, zero, suc, ◌*◌, ◌≤◌, List, [], ◌∷◌, refl, ◌==◌}
 use Rattle.std.proofs.Common.{◌∙◌, ap, sym, subst, arith}
 use Rattle.std.proofs.Math.Nat.{mul-le-mul_right}
 use Rattle.std.proofs.lemmas.Bool.{ne_eqb}
 use Rattle.std.specs.List.{AllByRecursion}
 use Rattle.zone_image.specs.declared.Geometry.{Geometry}
-use Rattle.zone_image.specs.Image.{Image, zone_of}
+use Rattle.zone_image.specs.Image.{zone_of}
 use Rattle.record_model.specs.declared.types.FileEntry.{FileEntry}
 use Rattle.log_model.specs.FileTable.{Table}
 use Rattle.log_model.specs.Frames.{no_active}
 use Rattle.fs_model.specs.declared.zones.Owner.{Owner}
 use Rattle.fs_model.specs.declared.zones.Owner.TheVariants.{Writer, Collector}
-use Rattle.fs_model.specs.FsState.{FsState, TableRow, ZoneDescriptor, descriptor_in, on_descriptor, recorded}
+use Rattle.fs_model.specs.FsState.{TableRow, ZoneDescriptor, descriptor_in, on_descriptor, recorded}
 use Rattle.fs_model.specs.LogSteps.{after_append}
 use Rattle.change_records.specs.Recorded.{entries}
 use Rattle.change_records.proofs.EntryLaws.{all_rows, only_row}
 use Rattle.crash_cover.specs.SameData.{RecoversElsewhere}
-use Rattle.least_crash.specs.DataSteps.{HasOnePoint}
 use Rattle.state_rules.specs.Rules.{owner_in}
-use Rattle.state_rules.specs.Unbroken.{PointLies, PointRules}
+use Rattle.state_rules.specs.Unbroken.{PointLies}
 use Rattle.state_rules.specs.Points.{WriterGivesNoPoint, CollectorGivesNoPoint, PointIsAlone, AppendKeepsPoints, FinishKeepsPoints}
 use Rattle.state_rules.proofs.OwnerLaws.{owners_stay}
 use Rattle.state_rules.proofs.RowChanges.{at_row}

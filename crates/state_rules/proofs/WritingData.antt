@@ -1,6 +1,6 @@
 -- Commits, shown bytes, noted extents and recovery points keep the rules of a mount that writes.
-use Rattle.std.specs.Prelude.{◌≡◌, ◌≢◌, ℕ, ◌+◌, ◌≤◌, Bool, true, false, List, [], ◌∷◌, ◌++◌, length, drop, nat_le, ◌==◌, if◌then◌else◌, IsTrue, refl}
-use Rattle.std.proofs.Common.{◌∙◌, ap, sym, subst, append-nil, arith}
+use Rattle.std.specs.Prelude.{◌≡◌, ◌≢◌, ℕ, ◌+◌, ◌≤◌, Bool, true, false, List, [], ◌∷◌, ◌++◌, length, ◌==◌, if◌then◌else◌, IsTrue, refl}
+use Rattle.std.proofs.Common.{ap, sym, subst, append-nil, arith}
 use Rattle.std.proofs.lemmas.Bool.{leb-true, le-leb}
 use Rattle.std.specs.List.{AllByRecursion, AllZip}
 use Rattle.zone_image.specs.declared.Geometry.{Geometry}
@@ -12,13 +12,12 @@ use Rattle.log_model.specs.Mounted.{all_extents}
 use Rattle.log_model.specs.Headroom.{log_need, has_room}
 use Rattle.log_model.specs.HeadroomLaws.{IsNoLonger}
 use Rattle.log_model.proofs.HeadroomLaws.{fewer_extents_need_no_more}
-use Rattle.fs_model.specs.FsState.{FsState, TableRow, ZoneDescriptor, working, working_entry, working_of, recorded, on_row}
+use Rattle.fs_model.specs.FsState.{FsState, TableRow, ZoneDescriptor, working_entry, working_of, recorded, on_row}
 use Rattle.fs_model.specs.FileSteps.{committed, with_recovery_point, note, show, shown_row}
 use Rattle.change_records.specs.Recorded.{entries}
 use Rattle.change_records.proofs.EntryLaws.{all_rows, only_row}
 use Rattle.change_records.proofs.StepsWithoutRecord.{note_records_nothing}
 use Rattle.state_rules.specs.Rules.{KeepsRules}
-use Rattle.state_rules.specs.Tokens.{LeavesToken}
 use Rattle.state_rules.specs.Unbroken.{PointLies, PointRules}
 use Rattle.state_rules.specs.WritingRules.{KeepsWritingRules}
 use Rattle.state_rules.specs.WritingData.{CommitKeepsWriting, ShowKeepsWriting, NoteKeepsWriting, PointKeepsWriting}

@@ -5,8 +5,6 @@ use Rattle.std.proofs.lemmas.Bool.{false≢true}
 use Rattle.fs_model.specs.ZonePolicy.{is_idle_owner}
 use Rattle.fs_model.specs.FsState.{FsState, ZoneDescriptor, recorded, descriptor_at, descriptor_in, on_descriptor}
 use Rattle.fs_model.specs.LogSteps.{after_append, is_used}
-use Rattle.state_rules.specs.Rules.{owner_in}
-use Rattle.state_rules.specs.Tokens.{LeavesToken}
 use Rattle.state_rules.specs.WritingRules.{KeepsWritingRules, AppendKeepsWriting, FinishKeepsWriting}
 use Rattle.state_rules.proofs.PointLaws.{points_stay}
 use Rattle.state_rules.proofs.TokenCounts.{is_token, tokens_in, tokens_are, no_more_behind}
