@@ -1,0 +1,3 @@
+mod LastEntries
+mod FoundEntries
+mod Listings

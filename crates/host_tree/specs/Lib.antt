@@ -1,0 +1,3 @@
+pub mod HostFiles
+pub mod MemTreeState
+pub mod RealTreeState
