@@ -1,5 +1,5 @@
 -- The clauses of an append.
-use Rattle.std.proofs.Common.{◌≡◌, ◌⊎◌, inl, inr, ⊎_elim, ℕ, ◌+◌, ◌*◌, ◌/◌, ◌%◌, ◌≤◌, ◌<◌, min, false, List, length, take, sym, ◌∙◌, ap, subst, arith, length-take}
+use Rattle.std.proofs.Common.{◌≡◌, ◌⊎◌, inl, inr, ⊎_elim, ℕ, ◌+◌, ◌-◌, ◌*◌, ◌/◌, ◌%◌, ◌≤◌, ◌<◌, min, false, List, length, take, sym, ◌∙◌, ap, subst, arith, length-take}
 use Rattle.std.proofs.lemmas.Bool.{cases_eq}
 use Rattle.std.proofs.lemmas.Nat.{div-add-mod'}
 use Rattle.std.proofs.lemmas.List.{take_all, take_min, take-take, length-take-le, get_or-set_same}
@@ -7,6 +7,7 @@ use Rattle.zone_image.specs.declared.ZoneInfo.{ZoneInfo}
 use Rattle.zone_image.specs.Image.{Image, IsCrash}
 use Rattle.zone_image.specs.Changes.{blocks_in, appended}
 use Rattle.zone_image.specs.Infos.{no_info, info_at, infos_of, active_zones, info_appended, infos_appended, IsValidImage, ShowsSome}
+use Rattle.zone_image.specs.Moments.{PassedByAppend}
 use Rattle.zone_image.proofs.BlockLaws.{length-blocks_in, All-blocks_in}
 use Rattle.zone_image.proofs.ImageLaws.{change_at_is}
 use Rattle.zone_image.proofs.InfoLaws.{infos-appended}
@@ -97,3 +98,32 @@ module _ (i j : Image) (zone : ℕ) (added : List (List ℕ)) (can : CanAppend i
       let long = written_at_most k le (take front.count added) (stands ∙ ap (λ e. after e i) part) in
       let same : take k (take front.count added) ≡ take k added = take-take k front.count added (omega (arith, long, length-take front.count added)) in
       subst (λ e. Passes e i x) (sym part) (record { count = k; some = long; crash = subst (λ bs. IsCrash (appended i zone bs) x) (sym same) crash })
+
+  -- the zone has as many blocks more as were written
+  written_more : (d : List (List ℕ)) → j ≡ appended i zone d → (info_at (infos_of j) zone).written - (info_at (infos_of i) zone).written ≡ length d
+  written_more d stands =
+      let number : (info_at (infos_of j) zone).written ≡ (info_at (infos_of i) zone).written + length d =
+      ap (λ (infos : List ZoneInfo). (info_at infos zone).written) (ap infos_of stands ∙ infos-appended i zone d) ∙ written_after (length d) in
+      omega (arith, number)
+
+  -- the blocks that stand more than before
+  abbrev blocks_more : List (List ℕ)
+  blocks_more = take ((info_at (infos_of j) zone).written - (info_at (infos_of i) zone).written) added
+
+  -- what was passed has at most the blocks that stand
+  pub within_same : (x : Image) → j ≡ i → IsCrash i x → PassedByAppend i zone blocks_more x
+  within_same x same crash = record { count = 0; some = omega arith; crash = subst (λ m. IsCrash m x) (sym (append_nothing i zone added can is)) crash }
+
+  pub within_part : (x : Image) (d : Change) → (d ≡ Append zone added) ⊎ IsFront (Append zone added) d → j ≡ after d i → Passes d i x → PassedByAppend i zone blocks_more x
+  within_part x d (inl whole) stands passed =
+      let more = written_more added (stands ∙ ap (λ e. after e i) whole) in
+      let all : blocks_more ≡ added = take_all ((info_at (infos_of j) zone).written - (info_at (infos_of i) zone).written) added (omega (arith, more)) in
+      subst (λ bs. PassedByAppend i zone bs x) (sym all) (subst (λ e. Passes e i x) whole passed)
+  within_part x d (inr front) stands passed =
+      let blocks : front.added ≡ added = cc (front.whole) in
+      let zones : front.zone ≡ zone = cc (front.whole) in
+      let part : d ≡ Append zone (take front.count added) = front.part ∙ ap (λ z. Append z (take front.count front.added)) zones ∙ ap (λ bs. Append zone (take front.count bs)) blocks in
+      let more = written_more (take front.count added) (stands ∙ ap (λ e. after e i) part) in
+      let number : (info_at (infos_of j) zone).written - (info_at (infos_of i) zone).written ≡ min front.count (length added) = omega (arith, more, length-take front.count added) in
+      let all : blocks_more ≡ take front.count added = ap (λ n. take n added) number ∙ take_min front.count added in
+      subst (λ bs. PassedByAppend i zone bs x) (sym all) (subst (λ e. Passes e i x) part passed)

@@ -1,18 +1,19 @@
 -- The clauses of a changing call, from what it makes of the content and the counts.
 use Rattle.std.proofs.Common.{◌≡◌, ◌⊎◌, inl, inr, ⊎_elim, ℕ, ◌≤◌, ◌<◌, Bool, true, false, Option, Some, Result, Ok, Err, refl, sym, ◌∙◌, ap, subst, arith}
 use Rattle.std.specs.Prelude.{is_ok, IsErr, OnOk, OnErr}
-use Rattle.zone_image.specs.Counts.{next_tick}
+use Rattle.zone_image.specs.Counts.{next_tick, last_tick}
 use Rattle.zone_image.specs.Image.{Image, IsCrash}
 use Rattle.zone_image.specs.Changes.{finished, emptied}
 use Rattle.zone_image.specs.Infos.{infos_of, infos_finished, infos_emptied, Shows}
 use Rattle.zone_image.specs.Moments.{LeavesOnly}
 use Rattle.zone_image.proofs.InfoLaws.{infos-finished, infos-emptied, infos-synced}
 use Rattle.zoned_device.specs.CallState.{CallState, IsWithinLimits, fault_of}
-use Rattle.zoned_device.specs.Content.{Change, Finish, Reset, Sync, Content, IsValidContent, after, Passes, AllBefore, LeftBy, with_change, content_after, is_done, calls_after}
-use Rattle.zoned_device.specs.MemState.{MemState, image_of, tick_of, since_of, IsKnown, HoldsMoments}
+use Rattle.zoned_device.specs.Content.{Change, Finish, Reset, Sync, Content, IsValidContent, after, Passes, AllBefore, LeftBy, part_of, with_part, with_change, content_after, is_done, calls_after}
+use Rattle.zoned_device.specs.MemState.{MemState, image_of, tick_of, since_of, changed, IsKnown, HoldsMoments}
+use Rattle.zoned_device.specs.MemLaws.{at_the_end}
 use Rattle.zoned_device.proofs.Changes.{CanDo}
-use Rattle.zoned_device.proofs.MemCalls.{IsFront, part_is, outcome, stays_valid, began, leaves, same_geometry, done_whole, rises}
-use Rattle.zoned_device.proofs.Leaves.{push_last, tick_rises, leaves_same, began_later}
+use Rattle.zoned_device.proofs.MemCalls.{IsFront, part_is, can_part, nothing, later, outcome, stays_valid, began, leaves, same_geometry, done_whole, rises}
+use Rattle.zoned_device.proofs.Leaves.{push_last, tick_rises, leaves_same, leaves_change, began_later}
 
 pub on_ok : {T E : Type 0} {P : Type 0} (r : Result T E) (done : Bool) → is_ok r ≡ done → (done ≡ true → P) → OnOk r P
 on_ok (Ok x) done answer then = then (sym answer)
@@ -75,6 +76,37 @@ module _ (old : MemState) (c : Content) (s : CallState) (ch : Change) (is : ◌�
       let left : LeftBy (with_change s.tick some.0 c).events s.tick calls.tick j = push_last c.events (record { tick = s.tick; image = c.standing; change = some.0 }) s.tick calls.tick j (omega arith, soon, passed) in
       inr (subst (λ t. LeftBy new.events t calls.tick j) (ap tick_of is) (subst (λ (e : Content). LeftBy e.events s.tick calls.tick j) (sym (content ∙ some.2)) left)))
       (outcome c s ch)
+
+  -- what a crash since the begin might have left is a crash of what stands, or one within what was done
+  pub call_left : {R : Type 0} (j : Image) → since_of (record { content = Some new; calls = calls }) (tick_of old) j
+      → (new.standing ≡ image_of old → IsCrash (image_of old) j → R)
+      → ((d : Change) → (d ≡ ch) ⊎ IsFront ch d → new.standing ≡ after d (image_of old) → Passes d (image_of old) j → R) → R
+  call_left j left same done =
+      let since : since_of (record { content = Some (content_after s ch c); calls = calls_after s ch c }) s.tick j =
+      subst (λ (k : CallState). since_of (record { content = Some (content_after s ch c); calls = k }) s.tick j) counts
+      (subst (λ (e : Content). since_of (record { content = Some e; calls = calls }) s.tick j) content
+      (subst (λ t. since_of (record { content = Some new; calls = calls }) t j) (sym (ap tick_of is)) left)) in
+      ⊎_elim
+      (λ none.
+      let crash : IsCrash c.standing j = (leaves_same (Some c) s (calls_after s ch c) (later c s ch known_c can_c all within.tick) (all, known_c.moments)).each j
+      (subst (λ (e : Content). since_of (record { content = Some e; calls = calls_after s ch c }) s.tick j) none since) in
+      same (ap (λ (e : Content). e.standing) (content ∙ none) ∙ image_is) (subst (λ i. IsCrash i j) image_is crash))
+      (λ some.
+      let passed : Passes some.0 c.standing j =
+      (leaves_change c some.0 s (calls_after s ch c) (rises c s ch known_c can_c all within.tick some.0 some.1) all known_c.standing (can_part c s ch known_c can_c all within.tick some.0 some.1)).each j
+      (subst (λ (e : Content). since_of (record { content = Some e; calls = calls_after s ch c }) s.tick j) some.2 since) in
+      done some.0 (part_is (fault_of s) ch some.0 some.1) (ap (λ (e : Content). e.standing) (content ∙ some.2) ∙ ap (after some.0) image_is) (subst (λ i. Passes some.0 i j) image_is passed))
+      (outcome c s ch)
+
+  -- at the last tick nothing is done
+  pub call_ended : tick_of old ≡ last_tick → new.standing ≡ image_of old
+  call_ended end =
+      let fault : fault_of s ≡ Some 0 = at_the_end s (omega (arith, ap tick_of is, end)) in
+      ap (λ (e : Content). e.standing) (content ∙ ap (λ f. with_part s.tick (part_of f ch) c) fault ∙ ap (λ p. with_part s.tick p c) (nothing ch)) ∙ image_is
+
+  -- the state after the call, whole
+  pub call_after : ◌≡◌ {A = MemState} (record { content = Some new; calls = calls }) (changed ch old)
+  call_after = (λ i. record { content = Some (content i); calls = counts i }) ∙ ap (changed ch) is
 
 -- what is shown after a failed finish or reset
 pub shows_same : (i j : Image) → j ≡ i → Shows (Unit {0}) (infos_of i) i (infos_of j) j

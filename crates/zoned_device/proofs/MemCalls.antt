@@ -9,6 +9,7 @@ use Rattle.zone_image.specs.Moments.{LeavesOnly}
 use Rattle.zoned_device.specs.CallState.{CallState, IsWithinLimits, fault_of, begun, change_failed, is_used_up, listed_part}
 use Rattle.zoned_device.specs.Content.{Change, Append, Finish, Reset, Sync, Content, IsValidContent, Passes, AllBefore, has_room, with_change, part_of, with_part, content_after, is_done, calls_after}
 use Rattle.zoned_device.specs.MemState.{MemState, tick_of, since_of}
+use Rattle.zoned_device.specs.MemLaws.{at_the_end}
 use Rattle.zoned_device.proofs.Changes.{CanDo, CanAppend, valid_after, passes_before, passes_valid, can_append_part, passes_part, part_of-append}
 use Rattle.zoned_device.proofs.Records.{geometry-after}
 use Rattle.zoned_device.proofs.Leaves.{leaves_same, leaves_change, before_later, before_push, valid_push, tick_rises}
@@ -51,15 +52,11 @@ part_passes i j ch d (inr front) passed =
     subst (λ e. Passes e i j) (sym front.whole) (passes_part front.count i j front.zone front.added (subst (λ e. Passes e i j) front.part passed))
 
 -- nothing is done of a call that fails at once
-nothing : (ch : Change) → part_of (Some 0) ch ≡ None
+pub nothing : (ch : Change) → part_of (Some 0) ch ≡ None
 nothing (Append zone added) = refl
 nothing (Finish zone) = refl
 nothing (Reset zone) = refl
 nothing Sync = refl
-
--- at the last tick every call fails at once
-pub at_the_end : (s : CallState) → last_tick ≤ s.tick → fault_of s ≡ Some 0
-at_the_end s end = ap (λ b. if b then Some 0 else (if is_used_up s.passes then Some 0 else listed_part s.fails (next_count s.number))) (le-leb last_tick s.tick end)
 
 in_time : (s : CallState) (ch d : Change) → part_of (fault_of s) ch ≡ Some d → s.tick < last_tick
 in_time s ch d is = ⊎_elim
@@ -101,14 +98,14 @@ module _ (c : Content) (s : CallState) (ch : Change) where
 
 -- with the conditions of the call, on a device that is there
 module _ (c : Content) (s : CallState) (ch : Change) (valid : IsValidContent c) (can : CanDo ch c.standing) (all : AllBefore s.tick c.events) (time : s.tick ≤ last_tick) where
-  can_part : (d : Change) → part_of (fault_of s) ch ≡ Some d → CanDo d c.standing
+  pub can_part : (d : Change) → part_of (fault_of s) ch ≡ Some d → CanDo d c.standing
   can_part d done = part_can c.standing ch d (part_is (fault_of s) ch d done) can
 
   -- the tick rises where something is done
   pub rises : (d : Change) → part_of (fault_of s) ch ≡ Some d → s.tick < (calls_after s ch c).tick
   rises d done = omega (arith, ticks c s ch, in_time s ch d done)
 
-  later : s.tick ≤ (calls_after s ch c).tick
+  pub later : s.tick ≤ (calls_after s ch c).tick
   later = omega (arith, ticks c s ch, tick_rises s.tick time)
 
   is : IsValidImage c.standing

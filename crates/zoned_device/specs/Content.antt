@@ -1,40 +1,11 @@
 -- What a device in memory holds: its image, and how it came to be.
+pub use Rattle.zoned_device.specs.Change.{Change, Append, Finish, Reset, Sync, after, Passes, written_by}
 use Rattle.std.specs.Prelude.{◌⊎◌, ℕ, ◌==◌, ◌+◌, ◌*◌, ◌<◌, ◌≤◌, Bool, ◌&&◌, List, [], ◌∷◌, ◌++◌, length, take, Option, None, Some, nat_lt, nat_le, if◌then◌else◌, is_none}
 use Rattle.zone_image.specs.declared.Geometry.{Geometry}
 use Rattle.zone_image.specs.Address.{device_bytes}
 use Rattle.zone_image.specs.Image.{Image, IsCrash}
-use Rattle.zone_image.specs.Changes.{appended, finished, emptied, synced}
 use Rattle.zone_image.specs.Infos.{IsValidImage}
-use Rattle.zone_image.specs.Moments.{PassedByAppend, PassedByFinish, PassedByReset}
 use Rattle.zoned_device.specs.CallState.{CallState, fault_of, begun, change_failed}
-
--- what a changing call does: to a zone, or to all
-pub data Change : Type 0 where
-  Append : ℕ → List (List ℕ) → Change
-  Finish : ℕ → Change
-  Reset : ℕ → Change
-  Sync : Change
-
--- the image after a change
-abbrev pub after : Change → Image → Image
-after (Append zone added) i = appended i zone added
-after (Finish zone) i = finished i zone
-after (Reset zone) i = emptied i zone
-after Sync i = synced i
-
--- what a crash within a change of this image may leave
-abbrev pub Passes : Change → Image → Image → Type 0
-Passes (Append zone added) i j = PassedByAppend i zone added j
-Passes (Finish zone) i j = PassedByFinish i zone j
-Passes (Reset zone) i j = PassedByReset i zone j
-Passes Sync i j = IsCrash i j
-
--- the bytes that a change writes
-abbrev pub written_by : Geometry → Change → ℕ
-written_by g (Append zone added) = length added * g.block
-written_by g (Finish zone) = 0
-written_by g (Reset zone) = 0
-written_by g Sync = 0
 
 -- a change, the tick at its begin, and the image before it
 pub record Event : Type 0 where

@@ -1,5 +1,7 @@
 pub mod Memory
 pub mod CallState
+pub mod Change
+pub mod AsBefore
 pub mod Content
 pub mod Record
 pub mod MemState

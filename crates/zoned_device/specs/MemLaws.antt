@@ -1,13 +1,16 @@
 -- The laws of a device that keeps its moments in memory.
-use Rattle.std.specs.Prelude.{ℕ, ◌≤◌, List, [], ◌∷◌, Option, None, Some, refl}
-use Rattle.std.proofs.Common.{inl, inr}
+use Rattle.std.specs.Prelude.{◌≡◌, ◌&&◌, ℕ, ◌≤◌, List, [], ◌∷◌, Option, None, Some, is_none, if◌then◌else◌, refl}
+use Rattle.std.proofs.Common.{inl, inr, ap, arith}
+use Rattle.std.proofs.lemmas.Bool.{le-leb}
 use Rattle.std.proofs.Math.Nat.{le_trans, lt_irrefl, lt_of_le_of_lt}
+use Rattle.zone_image.specs.Counts.{last_tick, next_count}
 use Rattle.zone_image.specs.Image.{Image, IsCrash}
 use Rattle.zone_image.specs.Infos.{infos_of, IsPossible, IsImage, IsValidImage}
 use Rattle.zone_image.specs.Moments.{KeepsMoments}
 use Rattle.zone_image.proofs.CrashLaws.{valid_crash}
+use Rattle.zoned_device.specs.CallState.{CallState, fault_of, is_used_up, listed_part}
 use Rattle.zoned_device.specs.Content.{Event, Content, LeftBy, AreValidMoments}
-use Rattle.zoned_device.specs.MemState.{MemState, standing_in, image_of, geometry_of, infos_in, tick_of, IsThere, IsNone, IsKnown, IsAbsent, LeftOf, since_of}
+use Rattle.zoned_device.specs.MemState.{MemState, standing_in, image_of, geometry_of, infos_in, tick_of, IsThere, IsNone, IsKnown, IsAbsent, LeftOf, since_of, room_in, Fails}
 
 left_earlier : (es : List Event) (now t u : ℕ) (j : Image) → t ≤ u → LeftBy es u now j → LeftBy es t now j
 left_earlier [] now t u j le none = none
@@ -76,3 +79,11 @@ valid_in (Some c) now t j is (inr left) = valid_left c.events now t j is.moments
 
 pub mem_valid_since : (s : MemState) (t : ℕ) (j : Image) → IsKnown s → since_of s t j → IsValidImage j
 mem_valid_since s t j is left = valid_in s.content (tick_of s) t j is left
+
+-- at the last tick every call fails at once
+pub at_the_end : (s : CallState) → last_tick ≤ s.tick → fault_of s ≡ Some 0
+at_the_end s end = ap (λ b. if b then Some 0 else (if is_used_up s.passes then Some 0 else listed_part s.fails (next_count s.number))) (le-leb last_tick s.tick end)
+
+pub mem_ends : (s : MemState) (call : Option ℕ) → tick_of s ≡ last_tick → Fails s call
+mem_ends s None end = ap is_none (at_the_end s.calls (omega (arith, end)))
+mem_ends s (Some bytes) end = ap (λ f. is_none f && room_in s.content bytes) (at_the_end s.calls (omega (arith, end)))

@@ -1,11 +1,13 @@
 -- The state of a device in memory, and what it tells.
-use Rattle.std.specs.Prelude.{◌≡◌, ◌&&◌, ◌⊎◌, ℕ, List, [], Bool, false, Option, None, Some, is_none, if◌then◌else◌}
+use Rattle.std.specs.Prelude.{◌≡◌, ◌≢◌, ◌&&◌, ◌⊎◌, ℕ, List, [], Bool, true, false, Option, None, Some, is_none, if◌then◌else◌}
 use Rattle.zone_image.specs.declared.Geometry.{Geometry}
 use Rattle.zone_image.specs.declared.ZoneInfo.{ZoneInfo}
 use Rattle.zone_image.specs.Image.{Image, IsCrash}
+use Rattle.zone_image.specs.Changes.{blank}
 use Rattle.zone_image.specs.Infos.{infos_of}
 use Rattle.zoned_device.specs.CallState.{CallState, fault_of, begun, faulted}
-use Rattle.zoned_device.specs.Content.{Content, IsValidContent, LeftBy, AllBefore, AreValidMoments, room_for, begun_with}
+use Rattle.zoned_device.specs.Change.{Change, Call, Looking, Making, Changing}
+use Rattle.zoned_device.specs.Content.{Content, IsValidContent, LeftBy, AllBefore, AreValidMoments, room_for, begun_with, content_after, calls_after}
 
 -- the image with its record, none until one is made, and the counts of the calls
 pub record MemState : Type 0 where
@@ -81,6 +83,27 @@ Fails s call = passes s call ≡ false
 -- after a call that changes no image
 abbrev pub called : MemState → MemState
 called s = record s { calls = if is_none (fault_of s.calls) then begun s.calls else faulted (begun s.calls) }
+
+abbrev pub changed_in : Change → Option Content → CallState → MemState
+changed_in ch None calls = record { content = None; calls = calls }
+changed_in ch (Some c) calls = record { content = Some (content_after calls ch c); calls = calls_after calls ch c }
+
+-- after a call that changes the image
+abbrev pub changed : Change → MemState → MemState
+changed ch s = changed_in ch s.content s.calls
+
+-- what is there after a call that makes an image: one that is to fail does nothing, or makes the image unless its part is
+-- 0 or memory is wanting; another makes it where it answers Ok
+abbrev pub IsMade : Option ℕ → Geometry → Bool → Option Content → Option Content → Type 0
+IsMade None g true old new = new ≡ Some (begun_with (blank g))
+IsMade None g false old new = new ≡ old
+IsMade (Some part) g ok old new = (new ≡ old) ⊎ ((part ≢ 0) × (new ≡ Some (begun_with (blank g))))
+
+-- what a device in memory is after a call, of which it is said whether it answered Ok
+abbrev pub IsAfter : MemState → Call → Bool → MemState → Type 0
+IsAfter s Looking ok t = t ≡ called s
+IsAfter s (Making g) ok t = (t.calls ≡ (called s).calls) × IsMade (fault_of s.calls) g ok s.content t.content
+IsAfter s (Changing ch) ok t = t ≡ changed ch s
 
 -- the same image, with a record that begins with it
 abbrev pub copied : Option Content → Option Content

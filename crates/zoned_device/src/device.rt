@@ -1,12 +1,15 @@
 // The device that every layer above writes to.
-ghost use Rattle.std.specs.Prelude.{Option, None, Some, ◌≡◌, ◌⊎◌, ◌↔◌, ℕ, ◌+◌, ◌/◌, ◌%◌, ◌<◌, ◌≤◌, List, length, take, false, IsTrue, IfOk, OnOk, OnErr, IsErr, IsErrOf};
+ghost use Rattle.std.specs.Prelude.{Option, Bool, None, Some, ◌≡◌, ◌⊎◌, ◌↔◌, ℕ, ◌+◌, ◌-◌, ◌/◌, ◌%◌, ◌<◌, ◌≤◌, List, length, take, false, is_ok, IsTrue, IfOk, OnOk, OnErr, IsErr, IsErrOf};
 ghost use Rattle.zone_image.specs.declared.Geometry.{Geometry};
 ghost use Rattle.zone_image.specs.declared.ZoneInfo.{ZoneInfo};
 ghost use Rattle.zone_image.specs.Image.{Image, IsCrash, is_valid};
+ghost use Rattle.zone_image.specs.Window.{window};
 ghost use Rattle.zone_image.specs.Changes.{blocks_in, bytes_at, appended, finished, emptied, synced, blank};
 ghost use Rattle.zone_image.specs.Infos.{info_at, active_zones, infos_appended, infos_finished, infos_emptied, infos_blank, IsPossible, IsImage, IsValidImage, Shows, ShowsSome};
 ghost use Rattle.zone_image.specs.Moments.{PassedByAppend, PassedByFinish, PassedByReset, LeavesOnly, KeepsMoments};
-ghost use Rattle.zone_image.specs.Counts.{next_tick, HasCause, Counts};
+ghost use Rattle.zone_image.specs.Counts.{next_tick, last_tick, HasCause, Counts};
+ghost use Rattle.zoned_device.specs.AsBefore.{IsAsBefore};
+ghost use Rattle.zoned_device.specs.Change.{Append, Finish, Reset, Sync, Call, Looking, Making, Changing};
 
 use crate::{DevFault, MakeError, ProbeError};
 use zone_image::{Geometry, ZoneInfo};
@@ -33,9 +36,6 @@ pub trait ZonedDevice: Drop {
     /// The image that stands; it says nothing of a device that doesn't tell its image.
     ghost image: { Self → Image };
 
-    /// A crash at this moment leaves one of the crashes of the image.
-    ghost tells_now: { Type 0 };
-
     /// `since` has every image that a crash might have left.
     ghost tells_moments: { Type 0 };
 
@@ -58,6 +58,11 @@ pub trait ZonedDevice: Drop {
     /// The next call answers a fault wherever this holds.
     ghost must_fail: { Self → Option ℕ → Type 0 } = { λ _ _. ⊥ };
 
+    /// What a device says besides of a call: of what it was before, the call, whether that answered Ok, and what it is
+    /// then. A device in memory says here what is left of its list, its passes and its room, and how much of a call was
+    /// done that failed; one over a file, where its faults come from, and what is durable.
+    ghost after_call: { Self → Call → Bool → Self → Type 0 } = { λ _ _ _ _. Unit {0} };
+
     /// Looks whether an image is there, and at its geometry, which is valid. `NotAnImage` comes exactly where the
     /// device tells that no image is there, unless the device fails or memory is wanting.
     fn probe(&mut self) -> Result<Geometry, ProbeError>
@@ -77,7 +82,8 @@ pub trait ZonedDevice: Drop {
         ensures cause { HasCause (faults self.old) (faults self.new) (IsErrOf result ProbeError.Failed) }
         ensures may_fail { IsErrOf result ProbeError.Failed → may_fail self.old None }
         ensures must_fail { must_fail self.old None → IsErrOf result ProbeError.Failed }
-        ensures changes { failed_changes self.new ≡ failed_changes self.old };
+        ensures changes { failed_changes self.new ≡ failed_changes self.old }
+        ensures after_call { after_call self.old Looking (is_ok result) self.new };
 
     /// Makes a new image in place of what is there: all zones are empty, and nothing is pending. After `Failed` it
     /// is open which image is there, if any. Nothing is told of the moments inside the call.
@@ -96,11 +102,15 @@ pub trait ZonedDevice: Drop {
         ensures same_absent { IsErrOf result MakeError.NoMemory → tells → absent self.new ↔ absent self.old }
         ensures passes { IsErrOf result MakeError.NoMemory → LeavesOnly tick since self.old self.new (IsCrash (image self.old)) }
 
+        ensures at_end { tells_moments → tick self.old ≡ last_tick
+            → IsAsBefore known geometry infos tells absent image self.old self.new }
+
         ensures ticks { tick self.new ≡ next_tick (tick self.old) }
         ensures cause { HasCause (faults self.old) (faults self.new) (IsErrOf result MakeError.Failed) }
         ensures may_fail { IsErrOf result MakeError.Failed → may_fail self.old None }
         ensures must_fail { must_fail self.old None → IsErrOf result MakeError.Failed }
-        ensures changes { failed_changes self.new ≡ failed_changes self.old };
+        ensures changes { failed_changes self.new ≡ failed_changes self.old }
+        ensures after_call { after_call self.old (Making shape.now) (is_ok result) self.new };
 
     /// The written number and the seal of a zone.
     fn report(&mut self, zone: u32) -> Result<ZoneInfo, DevFault>
@@ -118,15 +128,18 @@ pub trait ZonedDevice: Drop {
         ensures cause { HasCause (faults self.old) (faults self.new) (IsErr result) }
         ensures may_fail { IsErr result → may_fail self.old None }
         ensures must_fail { must_fail self.old None → IsErr result }
-        ensures changes { failed_changes self.new ≡ failed_changes self.old };
+        ensures changes { failed_changes self.new ≡ failed_changes self.old }
+        ensures after_call { after_call self.old Looking (is_ok result) self.new };
 
-    /// Reads whole blocks of a zone, from this block on. After a fault the bytes of `out` are open.
+    /// Reads whole blocks of a zone, from this block on, at most `Geometry::window` of them. After a fault the bytes of
+    /// `out` are open.
     fn read(&mut self, zone: u32, block: u32, out: &mut [u8]) -> Result<(), DevFault>
         requires is_known { known self.old }
         requires is_zone { zone < (geometry self.old).zones }
         requires whole { length out.old % (geometry self.old).block ≡ 0 }
         requires written { block + length out.old / (geometry self.old).block
             ≤ (info_at (infos self.old) zone).written }
+        requires window { length out.old / (geometry self.old).block ≤ window (geometry self.old) }
         ensures bytes { OnOk result (tells → out.new
             ≡ bytes_at (image self.old) zone block (length out.old / (geometry self.old).block)) }
 
@@ -140,7 +153,8 @@ pub trait ZonedDevice: Drop {
         ensures cause { HasCause (faults self.old) (faults self.new) (IsErr result) }
         ensures may_fail { IsErr result → may_fail self.old None }
         ensures must_fail { must_fail self.old None → IsErr result }
-        ensures changes { failed_changes self.new ≡ failed_changes self.old };
+        ensures changes { failed_changes self.new ≡ failed_changes self.old }
+        ensures after_call { after_call self.old Looking (is_ok result) self.new };
 
     /// Writes whole blocks, at least one, at the end of an unsealed zone that has room for them, and answers the
     /// first block's number. The zone is sealed once it is full. An empty zone is written only where fewer zones
@@ -167,16 +181,22 @@ pub trait ZonedDevice: Drop {
         ensures same_geometry { geometry self.new ≡ geometry self.old }
         ensures passes { LeavesOnly tick since self.old self.new
             (PassedByAppend (image self.old) zone (blocks_in (geometry self.old) bytes.now)) }
+        ensures within { (j : Image) → since self.new (tick self.old) j → PassedByAppend (image self.old) zone
+            (take ((info_at (infos self.new) zone).written - (info_at (infos self.old) zone).written)
+            (blocks_in (geometry self.old) bytes.now)) j }
         ensures passed { (k : ℕ) (j : Image) → tells_moments
             → (info_at (infos self.old) zone).written + k ≤ (info_at (infos self.new) zone).written
             → IsCrash (appended (image self.old) zone (take k (blocks_in (geometry self.old) bytes.now))) j
             → since self.new (tick self.old) j }
 
+        ensures at_end { tells_moments → tick self.old ≡ last_tick
+            → Shows tells (infos self.old) (image self.old) (infos self.new) (image self.new) }
         ensures ticks { tick self.new ≡ next_tick (tick self.old) }
         ensures cause { HasCause (faults self.old) (faults self.new) (IsErr result) }
         ensures may_fail { IsErr result → may_fail self.old (Some (length bytes.now)) }
         ensures must_fail { must_fail self.old (Some (length bytes.now)) → IsErr result }
-        ensures changes { Counts (failed_changes self.old) (failed_changes self.new) result };
+        ensures changes { Counts (failed_changes self.old) (failed_changes self.new) result }
+        ensures after_call { after_call self.old (Changing (Append zone (blocks_in (geometry self.old) bytes.now))) (is_ok result) self.new };
 
     /// Seals a zone. A failed finish was done whole or not at all.
     fn finish(&mut self, zone: u32) -> Result<(), DevFault>
@@ -191,11 +211,14 @@ pub trait ZonedDevice: Drop {
         ensures same_geometry { geometry self.new ≡ geometry self.old }
         ensures passes { LeavesOnly tick since self.old self.new (PassedByFinish (image self.old) zone) }
 
+        ensures at_end { tells_moments → tick self.old ≡ last_tick
+            → Shows tells (infos self.old) (image self.old) (infos self.new) (image self.new) }
         ensures ticks { tick self.new ≡ next_tick (tick self.old) }
         ensures cause { HasCause (faults self.old) (faults self.new) (IsErr result) }
         ensures may_fail { IsErr result → may_fail self.old (Some 0) }
         ensures must_fail { must_fail self.old (Some 0) → IsErr result }
-        ensures changes { Counts (failed_changes self.old) (failed_changes self.new) result };
+        ensures changes { Counts (failed_changes self.old) (failed_changes self.new) result }
+        ensures after_call { after_call self.old (Changing (Finish zone)) (is_ok result) self.new };
 
     /// Empties a zone. A failed reset was done whole or not at all.
     fn reset(&mut self, zone: u32) -> Result<(), DevFault>
@@ -210,11 +233,14 @@ pub trait ZonedDevice: Drop {
         ensures same_geometry { geometry self.new ≡ geometry self.old }
         ensures passes { LeavesOnly tick since self.old self.new (PassedByReset (image self.old) zone) }
 
+        ensures at_end { tells_moments → tick self.old ≡ last_tick
+            → Shows tells (infos self.old) (image self.old) (infos self.new) (image self.new) }
         ensures ticks { tick self.new ≡ next_tick (tick self.old) }
         ensures cause { HasCause (faults self.old) (faults self.new) (IsErr result) }
         ensures may_fail { IsErr result → may_fail self.old (Some 0) }
         ensures must_fail { must_fail self.old (Some 0) → IsErr result }
-        ensures changes { Counts (failed_changes self.old) (failed_changes self.new) result };
+        ensures changes { Counts (failed_changes self.old) (failed_changes self.new) result }
+        ensures after_call { after_call self.old (Changing (Reset zone)) (is_ok result) self.new };
 
     /// Makes all blocks durable. A failed sync leaves the image as it was.
     fn sync(&mut self) -> Result<(), DevFault>
@@ -231,10 +257,11 @@ pub trait ZonedDevice: Drop {
         ensures cause { HasCause (faults self.old) (faults self.new) (IsErr result) }
         ensures may_fail { IsErr result → may_fail self.old (Some 0) }
         ensures must_fail { must_fail self.old (Some 0) → IsErr result }
-        ensures changes { Counts (failed_changes self.old) (failed_changes self.new) result };
+        ensures changes { Counts (failed_changes self.old) (failed_changes self.new) result }
+        ensures after_call { after_call self.old (Changing Sync) (is_ok result) self.new };
 
     /// The tick: the number of calls so far, up to 2^64 - 2. A device that tells its moments fails every call from
-    /// there on.
+    /// there on, as `ends` says, and nothing is done of it, as `at_end`.
     fn tick(&self) -> u64
         ensures { result ≡ tick self.now };
 
@@ -264,4 +291,7 @@ pub trait ZonedDevice: Drop {
 
     /// A device that tells its moments tells each crash of the image that stands.
     ghost since_all: { (d : Self) (j : Image) → tells_moments → known d → IsCrash (image d) j → since d (tick d) j };
+
+    /// At the last tick each call fails of a device that tells its moments.
+    ghost ends: { (d : Self) (call : Option ℕ) → tells_moments → tick d ≡ last_tick → must_fail d call };
 }

@@ -9,7 +9,8 @@ use std::marker::Model;
 
 /// The call of this number is to fail. Calls are counted from 1, and `tick`, `faults` and `failed_changes` aren't
 /// counted. A failing append first writes as many blocks as the least of `part` and its own number of blocks. A
-/// failing `finish`, `reset` or `make` is done where `part` isn't 0.
+/// failing `finish`, `reset` or `make` is done where `part` isn't 0, a `make` unless memory is wanting for it. Public
+/// clauses say this by `after_call` of the device.
 #[derive(Clone, Copy, Debug, PartialEq, Eq)]
 pub struct Failing {
     pub call: u64,

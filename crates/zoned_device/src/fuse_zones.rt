@@ -41,8 +41,8 @@ impl FuseZones {
 }
 
 impl ZonedDevice for FuseZones {
-    ghost use Rattle.zoned_device.specs.MemState.{image_of, geometry_of, infos_in, tick_of, since_of, IsKnown, IsAbsent, Fails};
-    ghost use Rattle.zoned_device.specs.MemLaws.{mem_moments, mem_possible, mem_told, mem_there, mem_valid_since, mem_since_all};
+    ghost use Rattle.zoned_device.specs.MemState.{image_of, geometry_of, infos_in, tick_of, since_of, IsKnown, IsAbsent, Fails, IsAfter};
+    ghost use Rattle.zoned_device.specs.MemLaws.{mem_moments, mem_possible, mem_told, mem_there, mem_valid_since, mem_since_all, mem_ends};
 
     ghost known = { IsKnown };
 
@@ -55,8 +55,6 @@ impl ZonedDevice for FuseZones {
     ghost absent = { IsAbsent };
 
     ghost image = { image_of };
-
-    ghost tells_now = { Unit {0} };
 
     ghost tells_moments = { Unit {0} };
 
@@ -71,6 +69,8 @@ impl ZonedDevice for FuseZones {
     ghost may_fail = { Fails };
 
     ghost must_fail = { Fails };
+
+    ghost after_call = { IsAfter };
 
     fn probe(&mut self) -> Result<Geometry, ProbeError> {
         self.inner.probe()
@@ -127,4 +127,6 @@ impl ZonedDevice for FuseZones {
     ghost valid_since = { λ m t j known left. mem_valid_since m t j known left };
 
     ghost since_all = { λ m j _ known crash. mem_since_all m j known crash };
+
+    ghost ends = { λ m call _ end. mem_ends m call end };
 }

@@ -1,5 +1,5 @@
 // A device in memory that tells everything and fails as it is told.
-ghost use Rattle.std.specs.Prelude.{◌/◌, ◌%◌, ◌<◌, ◌≤◌, length, [], ◌≡◌, Some, None, IsTrue, IsSome, IfOk};
+ghost use Rattle.std.specs.Prelude.{◌⊎◌, ◌/◌, ◌%◌, ◌<◌, ◌≤◌, length, [], ◌≡◌, Some, None, IsTrue, IsSome, IfOk};
 ghost use Rattle.zone_image.specs.Image.{is_valid, IsCrash};
 ghost use Rattle.zone_image.specs.Changes.{blank, blocks_in, crashed, with_content};
 ghost use Rattle.zone_image.specs.Counts.{next_tick, HasCause};
@@ -16,7 +16,8 @@ use zone_image::{Geometry, ZoneInfo};
 
 /// A device in memory. It tells its image and every image that it passed, which it keeps in room that it takes when
 /// the image is made: for 65,536 changing calls and four times the bytes of the device. A call fails where the list
-/// says so, a changing call where no room is left, and every call at the last tick.
+/// says so, a changing call where no room is left, and every call at the last tick. Each call says by `after_call` all
+/// that the device is then: the list, the number of the call, the passes, the counts, the image and the room.
 #[derive(Drop)]
 pub struct MemZones {
     alloc: Global,
@@ -167,7 +168,8 @@ impl MemZones {
     // Puts a new image in place of what is there, if there is memory for it.
     fn replace(&mut self, shape: &Geometry)
         requires { IsTrue (is_valid shape.now) }
-        ensures { self.new.calls ≡ self.old.calls }
+        ensures same_calls { self.new.calls ≡ self.old.calls }
+        ensures content { (self.new.content ≡ self.old.content) ⊎ (self.new.content ≡ Some (begun_with (blank shape.now))) }
     {
         if let Ok(record) = Record::new(self.alloc, shape) {
             self.record = Some(record);
@@ -176,8 +178,8 @@ impl MemZones {
 }
 
 impl ZonedDevice for MemZones {
-    ghost use Rattle.zoned_device.specs.MemState.{image_of, geometry_of, infos_in, tick_of, since_of, IsKnown, IsAbsent, Fails};
-    ghost use Rattle.zoned_device.specs.MemLaws.{mem_moments, mem_possible, mem_told, mem_there, mem_valid_since, mem_since_all};
+    ghost use Rattle.zoned_device.specs.MemState.{image_of, geometry_of, infos_in, tick_of, since_of, IsKnown, IsAbsent, Fails, IsAfter};
+    ghost use Rattle.zoned_device.specs.MemLaws.{mem_moments, mem_possible, mem_told, mem_there, mem_valid_since, mem_since_all, mem_ends};
 
     ghost known = { IsKnown };
 
@@ -190,8 +192,6 @@ impl ZonedDevice for MemZones {
     ghost absent = { IsAbsent };
 
     ghost image = { image_of };
-
-    ghost tells_now = { Unit {0} };
 
     ghost tells_moments = { Unit {0} };
 
@@ -206,6 +206,8 @@ impl ZonedDevice for MemZones {
     ghost may_fail = { Fails };
 
     ghost must_fail = { Fails };
+
+    ghost after_call = { IsAfter };
 
     fn probe(&mut self) -> Result<Geometry, ProbeError> {
         if self.begin().is_some() {
@@ -300,4 +302,6 @@ impl ZonedDevice for MemZones {
     ghost valid_since = { λ m t j known left. mem_valid_since m t j known left };
 
     ghost since_all = { λ m j _ known crash. mem_since_all m j known crash };
+
+    ghost ends = { λ m call _ end. mem_ends m call end };
 }

@@ -64,8 +64,6 @@ impl ZonedDevice for SureZones {
 
     ghost image = { λ d. d.image };
 
-    ghost tells_now = { Unit {0} };
-
     ghost tells_moments = { ⊥ };
 
     ghost since = { λ _ _ _. ⊥ };
@@ -150,4 +148,6 @@ impl ZonedDevice for SureZones {
     ghost valid_since = { λ _ _ _ _ none. absurd none };
 
     ghost since_all = { λ _ _ none _ _. absurd none };
+
+    ghost ends = { λ _ _ none _. absurd none };
 }

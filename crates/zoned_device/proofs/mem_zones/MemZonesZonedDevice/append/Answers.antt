@@ -8,8 +8,8 @@ use Rattle.zoned_device.specs.MemState.{MemState, image_of, IsKnown, HoldsMoment
 use Rattle.zoned_device.specs.CallState.{fault_of}
 use Rattle.zoned_device.proofs.Changes.{CanAppend}
 use Rattle.zoned_device.proofs.Records.{written_bytes}
-use Rattle.zoned_device.proofs.DeviceAppends.{can_append, append_shows, passed_same, passed_part}
-use Rattle.zoned_device.proofs.DeviceCalls.{on_ok, on_err, fails_where, call_valid, call_began, call_leaves, call_done, call_stands, call_since}
+use Rattle.zoned_device.proofs.DeviceAppends.{can_append, append_shows, passed_same, passed_part, within_same, within_part}
+use Rattle.zoned_device.proofs.DeviceCalls.{on_ok, on_err, fails_where, call_valid, call_began, call_leaves, call_done, call_stands, call_since, call_left, call_ended, call_after, shows_same}
 use Rattle.zoned_device.proofs.mem_zones.MemZonesZonedDevice.append.Goals as goal
 
 -- the device has the content that the call is made with
@@ -61,6 +61,17 @@ returns-clause-passed c = λ k j told le crash.
     call_since c.args.self.now c.in-Some.record c.self.inside.calls (Append c.args.zone (blocks_in (image_of c.args.self.now).geometry c.args.bytes.now)) (old_is c) c.requires.is_known (can c) (began_is c) c.append.ensures.within c.append.new.record c.append.new.calls (content_is c) (counts_is c) j
     (λ same. passed_same (image_of c.args.self.now) c.append.new.record.standing c.args.zone (blocks_in (image_of c.args.self.now).geometry c.args.bytes.now) (can c) (image_is c) k j le same crash)
     (λ d part stands. passed_part (image_of c.args.self.now) c.append.new.record.standing c.args.zone (blocks_in (image_of c.args.self.now).geometry c.args.bytes.now) (can c) (image_is c) k j le d part stands crash)
+
+pub returns-clause-within : goal.returns-clause-within
+returns-clause-within c = λ j left. call_left c.args.self.now c.in-Some.record c.self.inside.calls (Append c.args.zone (blocks_in (image_of c.args.self.now).geometry c.args.bytes.now)) (old_is c) c.requires.is_known (can c) (began_is c) c.append.ensures.within c.append.new.record c.append.new.calls (content_is c) (counts_is c) j left
+    (λ same crash. within_same (image_of c.args.self.now) c.append.new.record.standing c.args.zone (blocks_in (image_of c.args.self.now).geometry c.args.bytes.now) (can c) (image_is c) j same crash)
+    (λ d part stands passed. within_part (image_of c.args.self.now) c.append.new.record.standing c.args.zone (blocks_in (image_of c.args.self.now).geometry c.args.bytes.now) (can c) (image_is c) j d part stands passed)
+
+pub returns-clause-at_end : goal.returns-clause-at_end
+returns-clause-at_end c = λ told end. shows_same (image_of c.args.self.now) c.append.new.record.standing (call_ended c.args.self.now c.in-Some.record c.self.inside.calls (Append c.args.zone (blocks_in (image_of c.args.self.now).geometry c.args.bytes.now)) (old_is c) c.requires.is_known (can c) (began_is c) c.append.ensures.within c.append.new.record c.append.new.calls (content_is c) (counts_is c) end)
+
+pub returns-clause-after_call : goal.returns-clause-after_call
+returns-clause-after_call c = call_after c.args.self.now c.in-Some.record c.self.inside.calls (Append c.args.zone (blocks_in (image_of c.args.self.now).geometry c.args.bytes.now)) (old_is c) c.requires.is_known (can c) (began_is c) c.append.ensures.within c.append.new.record c.append.new.calls (content_is c) (counts_is c)
 
 -- it passes where it isn't to fail and there is room for its bytes
 passes_is : (c : goal.After-append) → passes c.args.self.now (Some (length c.args.bytes.now)) ≡ is_done c.self.inside.calls (Append c.args.zone (blocks_in c.in-Some.record.standing.geometry c.args.bytes.now)) c.in-Some.record

@@ -3,7 +3,7 @@ use Rattle.zone_image.specs.Infos.{infos_of}
 use Rattle.zone_image.proofs.InfoLaws.{infos-finished}
 use Rattle.zoned_device.specs.Content.{Finish, AllBefore}
 use Rattle.zoned_device.specs.MemState.{MemState, image_of, HoldsMoments}
-use Rattle.zoned_device.proofs.DeviceCalls.{on_ok, on_err, call_valid, call_began, call_leaves, call_done, call_stands, finish_shows}
+use Rattle.zoned_device.proofs.DeviceCalls.{on_ok, on_err, call_valid, call_began, call_leaves, call_done, call_stands, call_ended, call_after, shows_same, finish_shows}
 use Rattle.zoned_device.proofs.mem_zones.MemZonesZonedDevice.finish.Goals as goal
 
 -- the device has the content that the call is made with
@@ -29,3 +29,9 @@ returns-clause-new_infos c = on_ok c.finish.result _ c.finish.ensures.answer (λ
 
 pub returns-clause-after_fault : goal.returns-clause-after_fault
 returns-clause-after_fault c = on_err c.finish.result (finish_shows (image_of c.args.self.now) c.finish.new.record.standing c.args.zone (call_stands c.args.self.now c.in-Some.record c.self.inside.calls (Finish c.args.zone) (old_is c) c.requires.is_known (c.requires.is_zone) (began_is c) c.finish.ensures.within c.finish.new.record c.finish.new.calls c.finish.ensures.content c.finish.ensures.counts))
+
+pub returns-clause-at_end : goal.returns-clause-at_end
+returns-clause-at_end c = λ told end. shows_same (image_of c.args.self.now) c.finish.new.record.standing (call_ended c.args.self.now c.in-Some.record c.self.inside.calls (Finish c.args.zone) (old_is c) c.requires.is_known (c.requires.is_zone) (began_is c) c.finish.ensures.within c.finish.new.record c.finish.new.calls c.finish.ensures.content c.finish.ensures.counts end)
+
+pub returns-clause-after_call : goal.returns-clause-after_call
+returns-clause-after_call c = call_after c.args.self.now c.in-Some.record c.self.inside.calls (Finish c.args.zone) (old_is c) c.requires.is_known (c.requires.is_zone) (began_is c) c.finish.ensures.within c.finish.new.record c.finish.new.calls c.finish.ensures.content c.finish.ensures.counts

@@ -3,7 +3,7 @@ use Rattle.zone_image.specs.Infos.{infos_of}
 use Rattle.zone_image.proofs.InfoLaws.{infos-emptied}
 use Rattle.zoned_device.specs.Content.{Reset, AllBefore}
 use Rattle.zoned_device.specs.MemState.{MemState, image_of, HoldsMoments}
-use Rattle.zoned_device.proofs.DeviceCalls.{on_ok, on_err, call_valid, call_began, call_leaves, call_done, call_stands, reset_shows}
+use Rattle.zoned_device.proofs.DeviceCalls.{on_ok, on_err, call_valid, call_began, call_leaves, call_done, call_stands, call_ended, call_after, shows_same, reset_shows}
 use Rattle.zoned_device.proofs.mem_zones.MemZonesZonedDevice.reset.Goals as goal
 
 -- the device has the content that the call is made with
@@ -29,3 +29,9 @@ returns-clause-new_infos c = on_ok c.reset.result _ c.reset.ensures.answer (λ d
 
 pub returns-clause-after_fault : goal.returns-clause-after_fault
 returns-clause-after_fault c = on_err c.reset.result (reset_shows (image_of c.args.self.now) c.reset.new.record.standing c.args.zone (call_stands c.args.self.now c.in-Some.record c.self.inside.calls (Reset c.args.zone) (old_is c) c.requires.is_known (c.requires.is_zone) (began_is c) c.reset.ensures.within c.reset.new.record c.reset.new.calls c.reset.ensures.content c.reset.ensures.counts))
+
+pub returns-clause-at_end : goal.returns-clause-at_end
+returns-clause-at_end c = λ told end. shows_same (image_of c.args.self.now) c.reset.new.record.standing (call_ended c.args.self.now c.in-Some.record c.self.inside.calls (Reset c.args.zone) (old_is c) c.requires.is_known (c.requires.is_zone) (began_is c) c.reset.ensures.within c.reset.new.record c.reset.new.calls c.reset.ensures.content c.reset.ensures.counts end)
+
+pub returns-clause-after_call : goal.returns-clause-after_call
+returns-clause-after_call c = call_after c.args.self.now c.in-Some.record c.self.inside.calls (Reset c.args.zone) (old_is c) c.requires.is_known (c.requires.is_zone) (began_is c) c.reset.ensures.within c.reset.new.record c.reset.new.calls c.reset.ensures.content c.reset.ensures.counts

@@ -1,7 +1,7 @@
 use Rattle.std.proofs.Common.{◌≡◌, Some, sym, ◌∙◌, ap, subst}
 use Rattle.zoned_device.specs.Content.{Sync, AllBefore}
 use Rattle.zoned_device.specs.MemState.{MemState, image_of, HoldsMoments}
-use Rattle.zoned_device.proofs.DeviceCalls.{call_valid, call_began, call_leaves, call_stands, sync_infos}
+use Rattle.zoned_device.proofs.DeviceCalls.{call_valid, call_began, call_leaves, call_stands, call_after, sync_infos}
 use Rattle.zoned_device.proofs.mem_zones.MemZonesZonedDevice.sync.Goals as goal
 
 -- the device has the content that the call is made with
@@ -24,3 +24,6 @@ returns-clause-passes c = call_leaves c.args.self.now c.in-Some.record c.self.in
 
 pub returns-clause-same_infos : goal.returns-clause-same_infos
 returns-clause-same_infos c = sync_infos (image_of c.args.self.now) c.sync.new.record.standing (call_stands c.args.self.now c.in-Some.record c.self.inside.calls Sync (old_is c) c.requires tt (began_is c) c.sync.ensures.within c.sync.new.record c.sync.new.calls c.sync.ensures.content c.sync.ensures.counts)
+
+pub returns-clause-after_call : goal.returns-clause-after_call
+returns-clause-after_call c = call_after c.args.self.now c.in-Some.record c.self.inside.calls (Sync) (old_is c) c.requires (tt) (began_is c) c.sync.ensures.within c.sync.new.record c.sync.new.calls c.sync.ensures.content c.sync.ensures.counts
