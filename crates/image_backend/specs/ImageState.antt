@@ -58,7 +58,7 @@ known_possible is_open is_sized size (Some t) file is = is.table.possible
 
 -- the counts at the begin
 abbrev pub no_counts : Counts
-no_counts = record { broken = false; faults = 0; failed_changes = 0; refusals = 0 }
+no_counts = record { broken = false; faults = 0; failed_changes = 0 }
 
 -- after a call that failed
 abbrev pub fault_counted : Counts → Counts
@@ -67,14 +67,6 @@ fault_counted c = record c { faults = next_count c.faults }
 -- after a change that failed
 abbrev pub change_counted : Counts → Counts
 change_counted c = record c { faults = next_count c.faults; failed_changes = next_count c.failed_changes }
-
--- after a change that is refused since a descriptor's write or a sync failed
-abbrev pub refusal_counted : Counts → Counts
-refusal_counted c = record (change_counted c) { refusals = next_count c.refusals }
-
--- there are no more faults than the file's and the refused changes
-abbrev pub IsFair : ℕ → Counts → Type 0
-IsFair file_faults c = c.faults ≤ file_faults + c.refusals
 
 -- why a length can't be set is why an image can't be made
 abbrev pub IsSame : SetLenError → MakeError → Type 0

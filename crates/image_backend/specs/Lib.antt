@@ -7,3 +7,4 @@ pub mod Table
 pub mod ImageState
 pub mod FileImage
 pub mod ImageLaws
+pub mod AfterCall

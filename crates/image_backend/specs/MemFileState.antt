@@ -4,10 +4,12 @@ use Rattle.std.proofs.Common.{ap}
 use Rattle.std.specs.List.{list_any}
 use Rattle.zone_image.specs.Counts.{next_count}
 
--- whether a file is there, its bytes, the number of the last call, the calls that are to fail, and the faults
+-- whether a file is there, its bytes, whether the last good sync left them so, the number of the last call, the calls that
+-- are to fail, and the faults
 pub record MemFileState : Type 0 where
   pub there : Bool
   pub bytes : List ℕ
+  pub durable : Bool
   pub calls : ℕ
   pub fails : List ℕ
   pub faults : ℕ

@@ -40,6 +40,10 @@ pub trait ByteFile: Drop {
     /// The bytes, none where no file is there; they say nothing of a file that doesn't tell them.
     ghost contents: { Self → List ℕ };
 
+    /// All its bytes stand as the last good `sync` left them, so that a loss of power keeps them; it says nothing of a
+    /// file that doesn't tell its bytes.
+    ghost is_durable: { Self → Type 0 };
+
     /// How often the file failed.
     ghost faults: { Self → ℕ };
 
@@ -49,6 +53,7 @@ pub trait ByteFile: Drop {
         ensures stays { IfOk result (λ there. is_open self.old → IsTrue there) }
         ensures missing { IfOk result (λ there. there ≡ false → is_absent self.new) }
         ensures exact { IfOk result (λ there. tells → (there ≡ false) ↔ is_absent self.old) }
+        ensures still_durable { tells → is_durable self.old → is_durable self.new }
         ensures same { SameFile is_open is_sized size tells contents self.old self.new }
         ensures cause { HasCause (faults self.old) (faults self.new) (IsErr result) };
 
@@ -71,6 +76,7 @@ pub trait ByteFile: Drop {
         requires { is_open self.old }
         ensures known { OnOk result (is_sized self.new) }
         ensures answer { IfOk result (λ count. count ≡ size self.new) }
+        ensures still_durable { tells → is_durable self.old → is_durable self.new }
         ensures same { SameFile is_open is_sized size tells contents self.old self.new }
         ensures cause { HasCause (faults self.old) (faults self.new) (IsErr result) };
 
@@ -93,6 +99,7 @@ pub trait ByteFile: Drop {
         requires known { is_sized self.old }
         requires within { at + length out.old ≤ size self.old }
         ensures bytes { OnOk result (tells → out.new ≡ take (length out.old) (drop at (contents self.old))) }
+        ensures still_durable { tells → is_durable self.old → is_durable self.new }
         ensures same { SameFile is_open is_sized size tells contents self.old self.new }
         ensures cause { HasCause (faults self.old) (faults self.new) (IsErr result) };
 
@@ -112,6 +119,7 @@ pub trait ByteFile: Drop {
     /// Makes all that was written durable.
     fn sync(&mut self) -> Result<(), FileFault>
         requires { is_open self.old }
+        ensures durable { OnOk result (tells → is_durable self.new) }
         ensures same { SameFile is_open is_sized size tells contents self.old self.new }
         ensures cause { HasCause (faults self.old) (faults self.new) (IsErr result) };
 

@@ -1,13 +1,13 @@
 // The changes of an image in a file: each writes to the file, and then the table takes over what was written.
-ghost use Rattle.std.specs.Prelude.{◌≡◌, ◌+◌, ◌*◌, ◌/◌, ◌%◌, ◌<◌, ◌≤◌, true, false, length, IfOk, OnOk, OnErr, IsErr, IsTrue};
+ghost use Rattle.std.specs.Prelude.{◌≡◌, ◌⊎◌, ◌||◌, nat_lt, ◌+◌, ◌*◌, ◌/◌, ◌%◌, ◌<◌, ◌≤◌, true, false, length, IfOk, OnOk, OnErr, IsErr, IsTrue};
 ghost use Rattle.zone_image.specs.Image.{is_valid};
 ghost use Rattle.zone_image.specs.Changes.{blocks_in, appended, finished, emptied, synced};
 ghost use Rattle.zone_image.specs.Infos.{info_at, active_zones, infos_appended, infos_finished, infos_emptied, IsPossibleInfo};
-ghost use Rattle.zone_image.specs.Counts.{HasCause, Counts as Counted};
+ghost use Rattle.zone_image.specs.Counts.{Rose, HasCause, Counts as Counted};
 ghost use Rattle.image_backend.specs.Contents.{patched, SameFile, SameOutside};
 ghost use Rattle.image_backend.specs.Format.{descriptor_at, descriptor_bytes};
 ghost use Rattle.image_backend.specs.Table.{table_infos, slot_info, slot_at, slot_appended, slot_finished, no_slot, with_slot, table_synced};
-ghost use Rattle.image_backend.specs.ImageState.{change_counted, HoldsTable, HoldsZones, IsFair};
+ghost use Rattle.image_backend.specs.ImageState.{change_counted, HoldsTable, HoldsZones};
 ghost use Rattle.image_backend.specs.FileImage.{image_with, IsDescribed};
 
 use crate::byte_file::{ByteFile, FileFault};
@@ -25,7 +25,6 @@ pub(crate) fn append<F: ByteFile>(
     bytes: &[u8],
 ) -> Result<u32, DevFault>
     requires known { HoldsTable F.is_open F.is_sized F.size table.old file.old }
-    requires fair { IsFair (F.faults file.old) counts.old }
     requires described { IsDescribed F.tells counts.old.broken table.old (F.contents file.old) }
     requires is_zone { zone < table.old.geometry.zones }
     requires whole { length bytes.now % table.old.geometry.block ≡ 0 }
@@ -47,7 +46,9 @@ pub(crate) fn append<F: ByteFile>(
     ensures still_described { IsDescribed F.tells counts.new.broken table.new (F.contents file.new) }
     ensures still_known { HoldsTable F.is_open F.is_sized F.size table.new file.new }
     ensures refused { IsTrue counts.old.broken → IsErr result }
-    ensures still_fair { IsFair (F.faults file.new) counts.new }
+    ensures same_counts { OnOk result (counts.new ≡ counts.old) }
+    ensures stays { IsTrue counts.old.broken → IsTrue counts.new.broken }
+    ensures caused { IsErr result → IsTrue counts.old.broken ⊎ Rose (F.faults file.old) (F.faults file.new) }
     ensures cause { HasCause counts.old.faults counts.new.faults (IsErr result) }
     ensures changes { Counted counts.old.failed_changes counts.new.failed_changes result }
 {
@@ -72,7 +73,6 @@ pub(crate) fn finish<F: ByteFile>(
     zone: u32,
 ) -> Result<(), DevFault>
     requires known { HoldsTable F.is_open F.is_sized F.size table.old file.old }
-    requires fair { IsFair (F.faults file.old) counts.old }
     requires described { IsDescribed F.tells counts.old.broken table.old (F.contents file.old) }
     requires is_zone { zone < table.old.geometry.zones }
     ensures done { OnOk result (table.new ≡ with_slot table.old zone (slot_finished (slot_at table.old zone))) }
@@ -85,7 +85,11 @@ pub(crate) fn finish<F: ByteFile>(
     ensures still_described { IsDescribed F.tells counts.new.broken table.new (F.contents file.new) }
     ensures still_known { HoldsTable F.is_open F.is_sized F.size table.new file.new }
     ensures refused { IsTrue counts.old.broken → IsErr result }
-    ensures still_fair { IsFair (F.faults file.new) counts.new }
+    ensures same_counts { OnOk result (counts.new ≡ counts.old) }
+    ensures stays { IsTrue counts.old.broken → IsTrue counts.new.broken }
+    ensures caused { IsErr result → IsTrue counts.old.broken ⊎ Rose (F.faults file.old) (F.faults file.new) }
+    ensures breaks { IsErr result → IsTrue counts.new.broken }
+    ensures durable { OnOk result (F.tells → F.is_durable file.new) }
     ensures cause { HasCause counts.old.faults counts.new.faults (IsErr result) }
     ensures changes { Counted counts.old.failed_changes counts.new.failed_changes result }
 {
@@ -102,7 +106,6 @@ pub(crate) fn reset<F: ByteFile>(
     zone: u32,
 ) -> Result<(), DevFault>
     requires known { HoldsTable F.is_open F.is_sized F.size table.old file.old }
-    requires fair { IsFair (F.faults file.old) counts.old }
     requires described { IsDescribed F.tells counts.old.broken table.old (F.contents file.old) }
     requires is_zone { zone < table.old.geometry.zones }
     ensures done { OnOk result (table.new ≡ with_slot table.old zone no_slot) }
@@ -115,7 +118,12 @@ pub(crate) fn reset<F: ByteFile>(
     ensures still_described { IsDescribed F.tells counts.new.broken table.new (F.contents file.new) }
     ensures still_known { HoldsTable F.is_open F.is_sized F.size table.new file.new }
     ensures refused { IsTrue counts.old.broken → IsErr result }
-    ensures still_fair { IsFair (F.faults file.new) counts.new }
+    ensures same_counts { OnOk result (counts.new ≡ counts.old) }
+    ensures stays { IsTrue counts.old.broken → IsTrue counts.new.broken }
+    ensures caused { IsErr result → IsTrue counts.old.broken ⊎ Rose (F.faults file.old) (F.faults file.new) }
+    ensures breaks { IsErr result → IsTrue counts.new.broken }
+    ensures durable { OnOk result ((nat_lt 0 (slot_at table.old zone).written || (slot_at table.old zone).sealed) ≡ true
+        → F.tells → F.is_durable file.new) }
     ensures cause { HasCause counts.old.faults counts.new.faults (IsErr result) }
     ensures changes { Counted counts.old.failed_changes counts.new.failed_changes result }
 {
@@ -132,7 +140,6 @@ pub(crate) fn sync<F: ByteFile>(
     counts: &mut Counts,
 ) -> Result<(), DevFault>
     requires known { HoldsTable F.is_open F.is_sized F.size table.old file.old }
-    requires fair { IsFair (F.faults file.old) counts.old }
     requires described { IsDescribed F.tells counts.old.broken table.old (F.contents file.old) }
     ensures done { OnOk result (table.new ≡ table_synced table.old) }
     ensures same_infos { table_infos table.new ≡ table_infos table.old }
@@ -144,7 +151,11 @@ pub(crate) fn sync<F: ByteFile>(
     ensures still_described { IsDescribed F.tells counts.new.broken table.new (F.contents file.new) }
     ensures still_known { HoldsTable F.is_open F.is_sized F.size table.new file.new }
     ensures refused { IsTrue counts.old.broken → IsErr result }
-    ensures still_fair { IsFair (F.faults file.new) counts.new }
+    ensures same_counts { OnOk result (counts.new ≡ counts.old) }
+    ensures stays { IsTrue counts.old.broken → IsTrue counts.new.broken }
+    ensures caused { IsErr result → IsTrue counts.old.broken ⊎ Rose (F.faults file.old) (F.faults file.new) }
+    ensures breaks { IsErr result → IsTrue counts.new.broken }
+    ensures durable { OnOk result (F.tells → F.is_durable file.new) }
     ensures cause { HasCause counts.old.faults counts.new.faults (IsErr result) }
     ensures changes { Counted counts.old.failed_changes counts.new.failed_changes result }
 {
@@ -168,7 +179,6 @@ fn put_slot<F: ByteFile>(
     requires valid { IsTrue (is_valid table.old.geometry) }
     requires count { length table.old.slots ≡ table.old.geometry.zones }
     requires holds { HoldsZones F.is_open F.is_sized F.size table.old.geometry file.old }
-    requires fair { IsFair (F.faults file.old) counts.old }
     requires described { IsDescribed F.tells counts.old.broken table.old (F.contents file.old) }
     requires is_zone { zone < table.old.geometry.zones }
     requires possible { IsPossibleInfo table.old.geometry (slot_info slot) }
@@ -181,7 +191,8 @@ fn put_slot<F: ByteFile>(
     ensures described { IsDescribed F.tells counts.new.broken table.new (F.contents file.new) }
     ensures same_counts { OnOk result (counts.new ≡ counts.old) }
     ensures broken { OnErr result (counts.new ≡ record (change_counted counts.old) { broken = true }) }
-    ensures still_fair { IsFair (F.faults file.new) counts.new }
+    ensures durable { OnOk result (IsTrue lasts → F.tells → F.is_durable file.new) }
+    ensures caused { IsErr result → Rose (F.faults file.old) (F.faults file.new) }
     ensures cause { HasCause counts.old.faults counts.new.faults (IsErr result) }
 {
     let bytes = format::descriptor(slot.info());
@@ -207,6 +218,7 @@ fn write_part<F: ByteFile>(
     ensures still_open { F.is_open file.new }
     ensures still_known { F.is_sized file.new }
     ensures same_size { F.size file.new ≡ F.size file.old }
+    ensures durable { OnOk result (IsTrue lasts → F.tells → F.is_durable file.new) }
     ensures cause { HasCause (F.faults file.old) (F.faults file.new) (IsErr result) }
 {
     file.write_at(at, bytes)?;
@@ -217,6 +229,7 @@ fn write_part<F: ByteFile>(
 fn sync_part<F: ByteFile>(file: &mut F, lasts: bool) -> Result<(), FileFault>
     requires { F.is_open file.old }
     ensures same { SameFile F.is_open F.is_sized F.size F.tells F.contents file.old file.new }
+    ensures durable { OnOk result (IsTrue lasts → F.tells → F.is_durable file.new) }
     ensures cause { HasCause (F.faults file.old) (F.faults file.new) (IsErr result) }
 {
     if !lasts {

@@ -1,7 +1,7 @@
 // What a device over an image file counts, and whether it still takes changes.
 ghost use Rattle.std.specs.Prelude.{◌≡◌, true, is_err, OnOk, OnErr, IsErr};
 ghost use Rattle.zone_image.specs.Counts.{HasCause};
-ghost use Rattle.image_backend.specs.ImageState.{fault_counted, change_counted, refusal_counted};
+ghost use Rattle.image_backend.specs.ImageState.{fault_counted, change_counted};
 
 use zoned_device::DevFault;
 
@@ -11,8 +11,6 @@ pub(crate) struct Counts {
     pub(crate) broken: bool,
     pub(crate) faults: u64,
     pub(crate) failed_changes: u64,
-    /// How many changes were refused for that.
-    pub(crate) refusals: u64,
 }
 
 impl Counts {
@@ -39,11 +37,10 @@ impl Counts {
     pub(crate) fn begin_change(&mut self) -> Result<(), DevFault>
         ensures refused { is_err result ≡ self.old.broken }
         ensures begun { OnOk result (self.new ≡ self.old) }
-        ensures counted { OnErr result (self.new ≡ refusal_counted self.old) }
+        ensures counted { OnErr result (self.new ≡ change_counted self.old) }
         ensures cause { HasCause self.old.faults self.new.faults (IsErr result) }
     {
         if self.broken {
-            self.refusals = self.refusals.saturating_add(1);
             return Err(self.failed_change());
         }
         Ok(())

@@ -92,6 +92,8 @@ impl<R: Files<File = File> + Alloc + Drop> ByteFile for DiskFile<R> {
 
     ghost contents = { λ _. [] };
 
+    ghost is_durable = { λ _. ⊥ };
+
     ghost faults = { λ f. f.faults };
 
     fn open(&mut self) -> Result<bool, FileFault> {

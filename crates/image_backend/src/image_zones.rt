@@ -16,7 +16,8 @@ use zoned_device::{DevFault, MakeError, ProbeError, ZonedDevice};
 /// A device over a file that holds an image. Where the file tells its bytes, the device tells its image: the blocks of
 /// a zone are the bytes at its place. It tells nothing of crashes. After a failed write of a descriptor, or a failed sync,
 /// each later append, finish, reset and sync fails; the device then goes on reading the blocks that it knows, and nothing
-/// is told of what another device finds in the file. Apart from these, it has no more faults than its file.
+/// is told of what another device finds in the file. Apart from these, a call is a fault only where the file's count rose in
+/// it, as `after_call` says.
 #[derive(Drop)]
 pub struct ImageZones<F: ByteFile> {
     alloc: Global,
@@ -32,10 +33,10 @@ impl<F: ByteFile> Model for ImageZones<F> {
 
     ghost view = { λ d. record { file = d.file; table = d.table; counts = d.counts } };
 
-    ghost use Rattle.image_backend.specs.ImageState.{IsHeld, IsFair};
+    ghost use Rattle.image_backend.specs.ImageState.{IsHeld};
     ghost use Rattle.image_backend.specs.FileImage.{IsDescribedIn};
 
-    ghost invariant = { λ d. IsHeld F.is_open F.is_sized F.size d.table d.file × IsFair (F.faults d.file) d.counts
+    ghost invariant = { λ d. IsHeld F.is_open F.is_sized F.size d.table d.file
         × IsDescribedIn F.tells d.counts.broken d.table (F.contents d.file) };
 }
 
@@ -54,7 +55,6 @@ impl<F: ByteFile> ImageZones<F> {
                 broken: false,
                 faults: 0,
                 failed_changes: 0,
-                refusals: 0,
             },
         }
     }
@@ -75,6 +75,7 @@ impl<F: ByteFile> ZonedDevice for ImageZones<F> {
     ghost use Rattle.zone_image.specs.Counts.{last_tick};
     ghost use Rattle.image_backend.specs.ImageState.{IsKnown, geometry_in, infos_in, known_possible};
     ghost use Rattle.image_backend.specs.FileImage.{standing_image, IsNoImage};
+    ghost use Rattle.image_backend.specs.AfterCall.{IsRefused, IsAfterCall};
     ghost use Rattle.image_backend.specs.ImageLaws.{known_image, known_there};
 
     ghost known = { λ d. IsKnown F.is_open F.is_sized F.size d.table d.file };
@@ -89,8 +90,6 @@ impl<F: ByteFile> ZonedDevice for ImageZones<F> {
 
     ghost image = { λ d. standing_image d.table (F.contents d.file) };
 
-    ghost tells_now = { ⊥ };
-
     ghost tells_moments = { ⊥ };
 
     ghost since = { λ _ _ _. ⊥ };
@@ -100,6 +99,10 @@ impl<F: ByteFile> ZonedDevice for ImageZones<F> {
     ghost faults = { λ d. d.counts.faults };
 
     ghost failed_changes = { λ d. d.counts.failed_changes };
+
+    ghost must_fail = { λ d call. IsRefused d.counts.broken call };
+
+    ghost after_call = { λ old call done new. IsAfterCall F.faults F.tells F.is_durable old call done new };
 
     fn probe(&mut self) -> Result<Geometry, ProbeError> {
         if let Some(table) = &self.table {
@@ -206,4 +209,6 @@ impl<F: ByteFile> ZonedDevice for ImageZones<F> {
     ghost valid_since = { λ _ _ _ _ none. absurd none };
 
     ghost since_all = { λ _ _ untold _ _. absurd untold };
+
+    ghost ends = { λ _ _ untold _. absurd untold };
 }

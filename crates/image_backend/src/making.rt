@@ -41,6 +41,7 @@ pub fn make_image<F: ByteFile>(
     ensures found { OnOk result (F.tells → is_image (F.contents file.new) ≡ true) }
     ensures empty { OnOk result (F.tells → found_image (F.contents file.new) ≡ blank geometry.now) }
     ensures no_memory { IsErrOf result ImageError.NoMemory → F.tells → F.contents file.new ≡ F.contents file.old }
+    ensures durable { OnOk result (F.tells → F.is_durable file.new) }
     ensures cause { HasCause (F.faults file.old) (F.faults file.new) (IsErrOf result ImageError.Fault) }
 {
     if !geometry.valid() {
@@ -66,6 +67,7 @@ pub(crate) fn write_image<F: ByteFile>(
     ensures same { IsErrOf result MakeError.NoMemory → F.is_open file.old
         → SameFile F.is_open F.is_sized F.size F.tells F.contents file.old file.new }
     ensures same_contents { IsErrOf result MakeError.NoMemory → F.tells → F.contents file.new ≡ F.contents file.old }
+    ensures durable { OnOk result (F.tells → F.is_durable file.new) }
     ensures cause { HasCause (F.faults file.old) (F.faults file.new) (IsErrOf result MakeError.Failed) }
 {
     let size = format::zones_at(geometry) as usize - HEADER_BYTES;
@@ -107,6 +109,7 @@ fn write_parts<F: ByteFile>(
     ensures holds { OnOk result (HoldsZones F.is_open F.is_sized F.size geometry.now file.new) }
     ensures made { OnOk result (F.tells → F.contents file.new ≡ new_image geometry.now (F.contents file.old)) }
     ensures same { IsErrOf result MakeError.NoMemory → SameFile F.is_open F.is_sized F.size F.tells F.contents file.old file.new }
+    ensures durable { OnOk result (F.tells → F.is_durable file.new) }
     ensures cause { HasCause (F.faults file.old) (F.faults file.new) (IsErrOf result MakeError.Failed) }
 {
     file.set_len(format::image_bytes(geometry))?;
@@ -126,6 +129,7 @@ fn write_front<F: ByteFile>(
     ensures holds { HoldsZones F.is_open F.is_sized F.size geometry.now file.new }
     ensures written { OnOk result (F.tells → F.contents file.new
         ≡ patched 0 (header_bytes geometry.now) (patched 32 zeros.now (F.contents file.old))) }
+    ensures durable { OnOk result (F.tells → F.is_durable file.new) }
     ensures cause { HasCause (F.faults file.old) (F.faults file.new) (IsErr result) }
 {
     file.write_at(HEADER_BYTES as u64, zeros)?;

@@ -14,6 +14,7 @@ use std::marker::Model;
 pub struct MemFile {
     there: bool,
     bytes: Vec<u8>,
+    durable: bool,
     calls: u64,
     fails: Vec<u64>,
     faults: u64,
@@ -25,7 +26,7 @@ impl Model for MemFile {
 
     ghost Value = { MemFileState };
 
-    ghost view = { λ f. record { there = f.there; bytes = f.bytes.items; calls = f.calls; fails = f.fails.items; faults = f.faults } };
+    ghost view = { λ f. record { there = f.there; bytes = f.bytes.items; durable = f.durable; calls = f.calls; fails = f.fails.items; faults = f.faults } };
 
     ghost invariant = { λ f. f.there ≡ false → f.bytes.items ≡ [] };
 }
@@ -33,11 +34,12 @@ impl Model for MemFile {
 impl MemFile {
     /// A file with these bytes, whose calls with these numbers fail.
     pub fn new(bytes: Vec<u8>, fails: Vec<u64>) -> MemFile
-        ensures { result ≡ record { there = true; bytes = bytes.items; calls = 0; fails = fails.items; faults = 0 } }
+        ensures { result ≡ record { there = true; bytes = bytes.items; durable = true; calls = 0; fails = fails.items; faults = 0 } }
     {
         MemFile {
             there: true,
             bytes,
+            durable: true,
             calls: 0,
             fails,
             faults: 0,
@@ -46,11 +48,12 @@ impl MemFile {
 
     /// No file, until one is created.
     pub fn none(alloc: Global, fails: Vec<u64>) -> MemFile
-        ensures { result ≡ record { there = false; bytes = []; calls = 0; fails = fails.items; faults = 0 } }
+        ensures { result ≡ record { there = false; bytes = []; durable = true; calls = 0; fails = fails.items; faults = 0 } }
     {
         MemFile {
             there: false,
             bytes: Vec::new(alloc),
+            durable: true,
             calls: 0,
             fails,
             faults: 0,
@@ -98,6 +101,8 @@ impl ByteFile for MemFile {
 
     ghost contents = { mem_contents };
 
+    ghost is_durable = { λ f. f.durable ≡ true };
+
     ghost faults = { λ f. f.faults };
 
     // Each call fails exactly where it is listed, and does nothing then.
@@ -114,23 +119,25 @@ impl ByteFile for MemFile {
     fn create(&mut self) -> Result<(), FileFault>
         requires { self.old.there ≡ false }
         ensures listed { is_err result ≡ is_next_listed self.old }
-        ensures after { OnOk result (self.new ≡ record (called self.old) { there = true; bytes = [] }) }
+        ensures after { OnOk result (self.new ≡ record (called self.old) { there = true; bytes = []; durable = false }) }
         ensures after_fault { OnErr result (self.new ≡ called self.old) }
         ensures cause { HasCause self.old.faults self.new.faults (IsErr result) }
     {
         self.begin()?;
         self.there = true;
+        self.durable = false;
         Ok(())
     }
 
     // It never fails, and isn't counted.
     fn remove(&mut self)
-        ensures after { self.new ≡ record self.old { there = false; bytes = [] } }
+        ensures after { self.new ≡ record self.old { there = false; bytes = []; durable = false } }
         ensures empty { mem_contents self.new ≡ [] }
         ensures no_fault { self.new.faults ≡ self.old.faults }
     {
         self.there = false;
         self.bytes.clear();
+        self.durable = false;
     }
 
     fn len(&mut self) -> Result<u64, FileFault>
@@ -147,7 +154,7 @@ impl ByteFile for MemFile {
     fn set_len(&mut self, count: u64) -> Result<(), SetLenError>
         requires { self.old.there ≡ true }
         ensures listed { IsErrOf result SetLenError.Failed ↔ IsTrue (is_next_listed self.old) }
-        ensures after { OnOk result (self.new ≡ record (called self.old) { bytes = resized count self.old.bytes }) }
+        ensures after { OnOk result (self.new ≡ record (called self.old) { bytes = resized count self.old.bytes; durable = false }) }
         ensures after_fault { OnErr result (self.new ≡ called self.old) }
         ensures cause { HasCause self.old.faults self.new.faults (IsErrOf result SetLenError.Failed) }
     {
@@ -155,7 +162,10 @@ impl ByteFile for MemFile {
             return Err(SetLenError::Failed);
         }
         match self.bytes.resize(count as usize, 0) {
-            Ok(()) => Ok(()),
+            Ok(()) => {
+                self.durable = false;
+                Ok(())
+            }
             Err(_) => Err(SetLenError::NoMemory),
         }
     }
@@ -179,22 +189,26 @@ impl ByteFile for MemFile {
         requires opened { self.old.there ≡ true }
         requires within { at + length bytes.now ≤ length self.old.bytes }
         ensures listed { is_err result ≡ is_next_listed self.old }
-        ensures after { OnOk result (self.new ≡ record (called self.old) { bytes = patched at bytes.now self.old.bytes }) }
+        ensures after { OnOk result (self.new ≡ record (called self.old) { bytes = patched at bytes.now self.old.bytes; durable = false }) }
         ensures after_fault { OnErr result (self.new ≡ called self.old) }
         ensures cause { HasCause self.old.faults self.new.faults (IsErr result) }
     {
         self.begin()?;
         write_over(&mut self.bytes, at as usize, bytes);
+        self.durable = false;
         Ok(())
     }
 
     fn sync(&mut self) -> Result<(), FileFault>
         requires { self.old.there ≡ true }
         ensures listed { is_err result ≡ is_next_listed self.old }
-        ensures after { self.new ≡ called self.old }
+        ensures after { OnOk result (self.new ≡ record (called self.old) { durable = true }) }
+        ensures after_fault { OnErr result (self.new ≡ called self.old) }
         ensures cause { HasCause self.old.faults self.new.faults (IsErr result) }
     {
-        self.begin()
+        self.begin()?;
+        self.durable = true;
+        Ok(())
     }
 
     ghost none = { λ f _ absent. no_contents f absent };

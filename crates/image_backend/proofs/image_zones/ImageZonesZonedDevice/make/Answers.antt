@@ -1,4 +1,4 @@
-use Rattle.std.proofs.Common.{ℕ, List, subst, sym, ◌∙◌, ap, arith}
+use Rattle.std.proofs.Common.{ℕ, List, subst, sym, ◌∙◌, ap}
 use Rattle.image_backend.specs.Table.{TableState, table_infos, table_blank}
 use Rattle.image_backend.specs.ImageState.{HoldsTable}
 use Rattle.image_backend.specs.FileImage.{Describes, image_with}
@@ -22,7 +22,6 @@ invariant_of-self g c = (
     table = table_with_blank c.args.shape.now c.requires;
     zones = c.in-Ok.ensures.holds;
   }),
-  omega (arith, c.self.invariant.1, c.in-Ok.ensures.cause.never_falls),
   λ told unbroken.
       let old = g.F.ByteFile.contents c.self.inside.file in
       subst (λ (t : TableState). Describes (g.F.ByteFile.contents c.write_image.new.file) t) (sym c.in_ok-table.ensures)

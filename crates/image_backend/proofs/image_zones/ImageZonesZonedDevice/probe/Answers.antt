@@ -1,4 +1,4 @@
-use Rattle.std.proofs.Common.{ℕ, List, subst, sym, arith}
+use Rattle.std.proofs.Common.{ℕ, List, subst, sym}
 use Rattle.image_backend.specs.Table.{TableState, table_in}
 use Rattle.image_backend.specs.FileImage.{Describes}
 use Rattle.image_backend.proofs.Described.{described_found}
@@ -7,7 +7,6 @@ use Rattle.image_backend.proofs.image_zones.ImageZonesZonedDevice.probe.Goals as
 pub invariant_of-self : goal.invariant_of-self
 invariant_of-self g c = (
   c.in-Ok.ensures.found,
-  omega (arith, c.self.invariant.1, c.in-Ok.ensures.cause.never_falls),
   λ told unbroken.
       let old = g.F.ByteFile.contents c.self.inside.file in
       subst (λ (t : TableState). Describes (g.F.ByteFile.contents c.scan.new.file) t) (sym (c.in-Ok.ensures.table told))
