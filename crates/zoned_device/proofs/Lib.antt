@@ -7,3 +7,4 @@ mod Memories
 mod MemCalls
 mod Records
 mod ZoneLists
+mod WindowReads

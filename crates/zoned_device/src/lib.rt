@@ -12,6 +12,7 @@ mod mem_zones;
 mod memory;
 mod step;
 mod sure_zones;
+mod windows;
 mod zone_buffer;
 
 pub use device::ZonedDevice;
@@ -20,4 +21,5 @@ pub use failing::Failing;
 pub use fuse_zones::FuseZones;
 pub use mem_zones::MemZones;
 pub use sure_zones::SureZones;
+pub use windows::read_blocks;
 pub use zone_image::{Geometry, Place, ZoneInfo};
