@@ -27,7 +27,7 @@ fn place_of(geometry: &Geometry, extent: Extent) -> ZonePlace
 }
 
 /// Reads the first bytes of an extent, as many as `out` has, which aren't more than the extent's. Whole blocks are read
-/// at once, straight into `out`; bytes that lie in part of a block are read by way of `block`, a buffer of one block. It
+/// window by window, straight into `out`; bytes that lie in part of a block are read by way of `block`, a buffer of one block. It
 /// takes no memory. `DevFault` comes only where the device's count of faults rose; the bytes of `out` are open then.
 pub fn read_extent<D: ZonedDevice>(
     dev: &mut D,

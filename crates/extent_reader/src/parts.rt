@@ -7,7 +7,7 @@ ghost use Rattle.zone_image.specs.Changes.{bytes_at};
 ghost use Rattle.extent_reader.specs.ZoneParts.{zone_part};
 
 use zone_image::Geometry;
-use zoned_device::{DevFault, ZonedDevice};
+use zoned_device::{DevFault, ZonedDevice, read_blocks, window};
 
 /// Bytes of a zone, by its number and the offset of the first of them.
 #[derive(Clone, Copy)]
@@ -24,7 +24,7 @@ fn block_of(geometry: &Geometry, place: ZonePlace) -> u64
     place.offset / u64::from(geometry.block)
 }
 
-/// Whole blocks of a zone.
+/// Whole blocks of a zone, as many at once as the device reads.
 pub(crate) fn read_whole<D: ZonedDevice>(
     dev: &mut D,
     geometry: &Geometry,
@@ -46,7 +46,14 @@ pub(crate) fn read_whole<D: ZonedDevice>(
         return Ok(());
     }
     let block = block_of(geometry, place) as u32;
-    dev.read(place.zone, block, out)?;
+    read_blocks(
+        dev,
+        geometry.block,
+        window(geometry),
+        place.zone,
+        block,
+        out,
+    )?;
     Ok(())
 }
 

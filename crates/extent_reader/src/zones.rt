@@ -38,7 +38,7 @@ fn whole_part(geometry: &Geometry, len: usize) -> usize
     len - len % geometry.block as usize
 }
 
-// Bytes of a zone from the start of a block on: whole blocks at once, and what is left of the last one.
+// Bytes of a zone from the start of a block on: whole blocks window by window, and what is left of the last one.
 fn read_blocks<D: ZonedDevice>(
     dev: &mut D,
     geometry: &Geometry,
@@ -69,7 +69,7 @@ fn read_blocks<D: ZonedDevice>(
     Ok(())
 }
 
-/// Bytes of a zone. Whole blocks are read at once, and what lies in part of a block by way of a buffer of one block.
+/// Bytes of a zone. Whole blocks are read window by window, and what lies in part of a block by way of a buffer of one block.
 pub(crate) fn read_zone<D: ZonedDevice>(
     dev: &mut D,
     geometry: &Geometry,

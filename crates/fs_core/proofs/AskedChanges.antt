@@ -14,8 +14,8 @@ use Rattle.log_model.proofs.RecordLaws.{length_record}
 use Rattle.fs_model.specs.declared.error.FsError.TheVariants.{NoMemory, DevFault}
 use Rattle.fs_model.specs.FsState.{FsState, working_of}
 use Rattle.fs_model.specs.LogSteps.{FsAction}
-use Rattle.log_roll.specs.DataKept.{KeepsData}
-use Rattle.log_roll.specs.DeviceSteps.{ChangesDevice}
+use Rattle.zoned_device.specs.DataKept.{KeepsData}
+use Rattle.zoned_device.specs.DeviceSteps.{ChangesDevice}
 use Rattle.change_steps.specs.Endings.{Asks, Demand, Ends, lacks_sequence, stored_by, stored_state}
 use Rattle.change_steps.specs.Recording.{KeepsFiles, after_record}
 use Rattle.change_steps.proofs.RecordLaws.{record_keeps_files}

@@ -10,7 +10,7 @@ use Rattle.fs_model.specs.FsState.{FsState, TableRow, recorded}
 use Rattle.fs_model.specs.LogSteps.{resettable_zones}
 use Rattle.fs_model.specs.Trace.{Refines}
 use Rattle.fs_model.specs.TreeSteps.{cleared, mount_write}
-use Rattle.log_store.specs.OtherData.{KeepsOtherData}
+use Rattle.zoned_device.specs.OtherData.{KeepsOtherData}
 use Rattle.change_records.specs.Recorded.{entries}
 use Rattle.change_steps.specs.Resetting.{IsResetting}
 use Rattle.change_steps.specs.WriteMount.{settled_state}

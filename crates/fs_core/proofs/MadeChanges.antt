@@ -15,10 +15,10 @@ use Rattle.fs_model.specs.CrashClauses.{shown_tree}
 use Rattle.fs_model.specs.FsState.{FsState, TableRow, recorded, working_of}
 use Rattle.fs_model.specs.LogSteps.{FsAction, resettable_zones}
 use Rattle.fs_model.specs.Trace.{Refines}
-use Rattle.log_roll.specs.DataKept.{KeepsData}
-use Rattle.log_roll.specs.DeviceSteps.{ChangesDevice}
-use Rattle.log_roll.proofs.DeviceCalls.{done_as, done_then, nothing_done}
-use Rattle.log_store.specs.OtherData.{KeepsOtherData}
+use Rattle.zoned_device.specs.DataKept.{KeepsData}
+use Rattle.zoned_device.specs.DeviceSteps.{ChangesDevice}
+use Rattle.zoned_device.proofs.DeviceLaws.{done_as, done_then, nothing_done}
+use Rattle.zoned_device.specs.OtherData.{KeepsOtherData}
 use Rattle.log_store.proofs.OtherData.{others_of_all, others_of_both, others_of_fewer}
 use Rattle.change_records.specs.PinnedRows.{AreSomeOf}
 use Rattle.change_records.proofs.FewerExtents.{same_extents}

@@ -12,9 +12,9 @@ use Rattle.fs_model.specs.CrashClauses.{shown_tree}
 use Rattle.fs_model.specs.FsState.{FsState, descriptor_at, recorded}
 use Rattle.fs_model.specs.LogSteps.{FsAction}
 use Rattle.fs_model.specs.Trace.{Refines}
-use Rattle.log_roll.specs.DataKept.{KeepsData}
-use Rattle.log_roll.specs.DeviceSteps.{ChangesDevice}
-use Rattle.log_store.specs.OtherData.{KeepsOtherData}
+use Rattle.zoned_device.specs.DataKept.{KeepsData}
+use Rattle.zoned_device.specs.DeviceSteps.{ChangesDevice}
+use Rattle.zoned_device.specs.OtherData.{KeepsOtherData}
 use Rattle.change_records.specs.PinnedRows.{AreSomeOf}
 use Rattle.change_cover.specs.Left.{IsLeftOf}
 use Rattle.change_steps.specs.Endings.{Ends}

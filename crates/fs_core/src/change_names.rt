@@ -10,7 +10,7 @@ ghost use Rattle.fs_model.specs.CrashClauses.{shown_tree};
 ghost use Rattle.fs_model.specs.FsState.{recorded};
 ghost use Rattle.fs_model.specs.Trace.{Refines};
 ghost use Rattle.fs_model.specs.TreeSteps.{create, delete, link, rename};
-ghost use Rattle.log_roll.specs.DeviceSteps.{MayCount};
+ghost use Rattle.zoned_device.specs.DeviceSteps.{MayCount};
 ghost use Rattle.fs_core.specs.Beginning.{stopped_by};
 ghost use Rattle.fs_core.specs.Changing.{IsUnwritten, LeavesAfter, LeavesBoth};
 

@@ -8,7 +8,7 @@ ghost use Rattle.fs_model.specs.CrashClauses.{IsCovered};
 ghost use Rattle.fs_model.specs.FsState.{recorded};
 ghost use Rattle.fs_model.specs.Trace.{Refines};
 ghost use Rattle.fs_model.specs.TreeSteps.{mount_write};
-ghost use Rattle.log_roll.specs.DeviceSteps.{MayCount};
+ghost use Rattle.zoned_device.specs.DeviceSteps.{MayCount};
 ghost use Rattle.change_cover.specs.MountRoom.{MayMount};
 ghost use Rattle.change_cover.specs.SameTrees.{MountsTheSame};
 ghost use Rattle.fs_core.specs.Beginning.{IsBeforehand, IsReady, LeftByBeginning, stopped_by};

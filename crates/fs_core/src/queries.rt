@@ -4,6 +4,7 @@ ghost use Rattle.zone_image.specs.Changes.{bytes_at};
 ghost use Rattle.zone_image.specs.Counts.{HasCause};
 ghost use Rattle.zone_image.specs.Infos.{info_at};
 ghost use Rattle.zone_image.specs.Image.{IsCrash};
+ghost use Rattle.zoned_device.specs.Window.{window};
 ghost use Rattle.zone_image.specs.Moments.{LeavesOnly};
 ghost use Rattle.fs_model.specs.FsState.{collects, zone_states};
 ghost use Rattle.fs_model.specs.ZonePolicy.{space};
@@ -99,11 +100,13 @@ impl<D: ZonedDevice> Fs<D> {
         self.dev
     }
 
-    /// Reads whole blocks of a zone, from this block on. After a fault the bytes of `out` are open.
+    /// Reads whole blocks of a zone, from this block on, at most `zoned_device::window` of them. After a fault the bytes of
+    /// `out` are open.
     pub fn read_block(&mut self, zone: u32, block: u32, out: &mut [u8]) -> Result<(), DevFault>
         requires is_zone { zone < self.old.state.geometry.zones }
         requires whole { length out.old % self.old.state.geometry.block ≡ 0 }
         requires written { block + length out.old / self.old.state.geometry.block ≤ (info_at (D.infos self.old.device) zone).written }
+        requires window { length out.old / self.old.state.geometry.block ≤ window self.old.state.geometry }
         ensures bytes { OnOk result (D.tells → out.new ≡ bytes_at (D.image self.old.device) zone block (length out.old / self.old.state.geometry.block)) }
         ensures state { self.new.state ≡ self.old.state }
         ensures mode { (self.new.writing ≡ self.old.writing) × (self.new.stopped ≡ self.old.stopped) }

@@ -2,8 +2,8 @@
 ghost use Rattle.std.specs.Prelude.{◌≡◌, ◌+◌, ◌<◌, true, false, length, Ok, OnErr, OnOk, IsErr};
 ghost use Rattle.fs_model.specs.LogSteps.{at_sequence_end, must_roll};
 ghost use Rattle.log_model.specs.LogSelection.{selected_log};
-ghost use Rattle.log_roll.specs.DataKept.{KeepsData};
-ghost use Rattle.log_roll.specs.DeviceSteps.{ChangesDevice};
+ghost use Rattle.zoned_device.specs.DataKept.{KeepsData};
+ghost use Rattle.zoned_device.specs.DeviceSteps.{ChangesDevice};
 ghost use Rattle.change_steps.specs.Recording.{after_record};
 ghost use Rattle.fs_tables.specs.Steps.{HasSameRoom, infos_in};
 ghost use Rattle.change_steps.specs.Endings.{lacks_sequence};

@@ -13,7 +13,7 @@ use Rattle.log_model.specs.LogScan.{record_blocks}
 use Rattle.log_model.specs.Format.{reset_order}
 use Rattle.log_roll.specs.FormatOrder.{AreMetadata}
 use Rattle.log_roll.specs.Formatting.{LeftByFormat, PassedByFormat}
-use Rattle.log_roll.proofs.DeviceCalls.{valid_image}
+use Rattle.zoned_device.proofs.DeviceLaws.{valid_image}
 use Rattle.log_roll.proofs.FormatCrash.{crash_is_old, while_formatted}
 use Rattle.log_roll.proofs.FormatSelects.{EmptySnapshot, empty_snapshot_is, first_superblock_is}
 use Rattle.log_roll.proofs.LoneLogs.{IsSuperblock}

@@ -6,7 +6,7 @@ use Rattle.zone_image.specs.declared.ZoneInfo.{ZoneInfo}
 use Rattle.zone_image.specs.Image.{Zone, Image, zone_at, zone_in}
 use Rattle.zone_image.specs.Changes.{change_at, with_zone, zone_appended, zone_synced, synced}
 use Rattle.zone_image.specs.Infos.{Shows, ShowsSome, info_appended}
-use Rattle.log_roll.specs.DataKept.{KeepsData}
+use Rattle.zoned_device.specs.DataKept.{KeepsData}
 use Rattle.log_roll.proofs.Rolled.{drop_changed}
 use Rattle.log_roll.proofs.ZoneChanges.{other_zone}
 

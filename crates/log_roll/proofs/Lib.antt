@@ -3,7 +3,6 @@ pub mod Tails
 pub mod ZoneSummaries
 pub mod ChoiceLaws
 pub mod BeginningLaws
-pub mod DeviceCalls
 pub mod ZoneChanges
 pub mod FirstRecords
 pub mod Blanking

@@ -15,7 +15,7 @@ use Rattle.log_roll.specs.RollLeaves.{LeftByRoll}
 use Rattle.log_roll.specs.Rolling.{NoValue, PassedByRoll, last_sequence, next_superblock, roll_need, roll_refusal}
 use Rattle.log_roll.specs.declared.roll_error.RollError.{RollError}
 use Rattle.log_roll.specs.declared.roll_error.RollError.TheVariants.{SequenceEnd, MetaFull, DevFault}
-use Rattle.log_roll.proofs.DeviceCalls.{valid_image}
+use Rattle.zoned_device.proofs.DeviceLaws.{valid_image}
 use Rattle.log_roll.proofs.ZoneChanges.{zones_of_image}
 use Rattle.log_roll.proofs.RollSelects.{IsNext}
 use Rattle.log_roll.proofs.RollCrash.{while_rolled}

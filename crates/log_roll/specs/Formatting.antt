@@ -9,7 +9,7 @@ use Rattle.superblock_core.specs.Superblock.{superblock_bytes}
 use Rattle.superblock_core.specs.declared.superblock.Superblock.{Superblock}
 use Rattle.log_model.specs.LogScan.{record_blocks}
 use Rattle.log_model.specs.Format.{reset_order}
-use Rattle.log_roll.specs.DeviceSteps.{Then}
+use Rattle.zoned_device.specs.DeviceSteps.{Then}
 use Rattle.log_roll.specs.Resets.{CrashesMetadata, PassedByThreeResets, emptied_three}
 use Rattle.log_roll.specs.NewLog.{PassedByNewLog, begun}
 use Rattle.log_roll.specs.FormatLeaves.{FormatLeaves, HasLogs}

@@ -4,8 +4,6 @@ pub mod Rests
 pub mod Choosing
 pub mod Refusals
 pub mod Beginnings
-pub mod DataKept
-pub mod DeviceSteps
 pub mod Resets
 pub mod NewLog
 pub mod FormatOrder

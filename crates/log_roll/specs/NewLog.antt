@@ -6,7 +6,7 @@ use Rattle.zone_image.specs.Image.{Image}
 use Rattle.zone_image.specs.Changes.{appended}
 use Rattle.zone_image.specs.Infos.{infos_appended}
 use Rattle.zone_image.specs.Moments.{PassedByAppend}
-use Rattle.log_roll.specs.DeviceSteps.{Then}
+use Rattle.zoned_device.specs.DeviceSteps.{Then}
 
 -- the numbers and seals after two appends of so many blocks to a zone
 abbrev pub infos_begun : Geometry → List ZoneInfo → ℕ → ℕ → ℕ → List ZoneInfo

@@ -5,7 +5,7 @@ use Rattle.zone_image.specs.Image.{Image, ZoneCrash, no_zone, zone_at}
 use Rattle.zone_image.specs.Changes.{change_at, emptied}
 use Rattle.zone_image.specs.Infos.{no_info, infos_emptied}
 use Rattle.zone_image.specs.Moments.{PassedByReset}
-use Rattle.log_roll.specs.DeviceSteps.{Then}
+use Rattle.zoned_device.specs.DeviceSteps.{Then}
 
 -- so many items from one on are put in place of what stands there
 abbrev pub filled_from : {A : Type 0} → ℕ → ℕ → A → List A → List A

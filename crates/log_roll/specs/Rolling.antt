@@ -14,7 +14,7 @@ use Rattle.superblock_core.specs.declared.superblock.Superblock.{Superblock}
 use Rattle.log_model.specs.declared.selection.Chosen.{Chosen}
 use Rattle.log_model.specs.LogScan.{blocks_of, record_blocks}
 use Rattle.log_model.specs.Format.{durable_zone}
-use Rattle.log_roll.specs.DeviceSteps.{Then}
+use Rattle.zoned_device.specs.DeviceSteps.{Then}
 use Rattle.log_roll.specs.Resets.{PassedByTwoResets, emptied_two, infos_emptied_two}
 use Rattle.log_roll.specs.NewLog.{PassedByNewLog, begun}
 use Rattle.log_roll.specs.declared.roll_error.RollError.{RollError}

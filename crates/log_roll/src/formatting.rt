@@ -6,7 +6,7 @@ ghost use Rattle.zone_image.specs.Infos.{infos_blank, infos_of, IsValidImage};
 ghost use Rattle.superblock_core.specs.Superblock.{fits};
 ghost use Rattle.log_model.specs.LogScan.{blocks_of, record_blocks};
 ghost use Rattle.log_model.specs.Format.{formatted_image, reset_order};
-ghost use Rattle.log_roll.specs.DeviceSteps.{ChangesDevice};
+ghost use Rattle.zoned_device.specs.DeviceSteps.{ChangesDevice};
 ghost use Rattle.log_roll.specs.Resets.{emptied_three, infos_emptied_three};
 ghost use Rattle.log_roll.specs.NewLog.{begun, infos_begun};
 ghost use Rattle.record_model.specs.Encoding.{payload_of};

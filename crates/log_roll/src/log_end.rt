@@ -4,8 +4,8 @@ ghost use Rattle.zone_image.specs.Changes.{finished};
 ghost use Rattle.zone_image.specs.Infos.{active_zones, info_at, infos_finished};
 ghost use Rattle.zone_image.specs.Moments.{PassedByFinish};
 ghost use Rattle.log_model.specs.LogScan.{blocks_of};
-ghost use Rattle.log_roll.specs.DataKept.{KeepsData};
-ghost use Rattle.log_roll.specs.DeviceSteps.{ChangesDevice};
+ghost use Rattle.zoned_device.specs.DataKept.{KeepsData};
+ghost use Rattle.zoned_device.specs.DeviceSteps.{ChangesDevice};
 ghost use Rattle.log_roll.specs.Rolling.{PassedByClose, PassedByEnd, closed, ended, gets_end, infos_closed, infos_ended};
 
 use crate::records::write_record;

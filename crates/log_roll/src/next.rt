@@ -4,6 +4,7 @@ ghost use Rattle.zone_image.specs.Counts.{HasCause};
 ghost use Rattle.zone_image.specs.Image.{zone_at};
 ghost use Rattle.zone_image.specs.Infos.{info_at};
 ghost use Rattle.zone_image.specs.Reads.{OnlyReads};
+ghost use Rattle.zoned_device.specs.Window.{window};
 ghost use Rattle.log_model.specs.LogSelection.{bad_record};
 ghost use Rattle.meta_log.specs.Reader.{IsSameLog, scan_left};
 ghost use Rattle.log_roll.specs.Records.{Begins, IsShort};
@@ -55,6 +56,7 @@ pub(crate) fn next_record<D: ZonedDevice>(
     requires is_known { D.known dev.old }
     requires is_zone { reader.old.zone < (D.geometry dev.old).zones }
     requires same_block { reader.old.block_size ≡ (D.geometry dev.old).block }
+    requires same_window { reader.old.window ≡ window (D.geometry dev.old) }
     requires same_written { reader.old.written ≡ (info_at (D.infos dev.old) reader.old.zone).written }
     ensures begins { IfOk result (λ next. D.tells → Begins (scan_left reader.old (zone_at (D.image dev.old) reader.old.zone).blocks) next
         (scan_left reader.new (zone_at (D.image dev.old) reader.old.zone).blocks)) }

@@ -4,8 +4,8 @@ ghost use Rattle.zone_image.specs.Changes.{appended, chunks};
 ghost use Rattle.zone_image.specs.Infos.{info_at, active_zones, infos_appended, no_info};
 ghost use Rattle.zone_image.specs.Moments.{PassedByAppend};
 ghost use Rattle.log_model.specs.LogScan.{blocks_of, record_blocks, record_sum};
-ghost use Rattle.log_roll.specs.DataKept.{KeepsData};
-ghost use Rattle.log_roll.specs.DeviceSteps.{ChangesDevice};
+ghost use Rattle.zoned_device.specs.DataKept.{KeepsData};
+ghost use Rattle.zoned_device.specs.DeviceSteps.{ChangesDevice};
 ghost use Rattle.log_roll.specs.NewLog.{PassedByNewLog, begun, infos_begun};
 
 use crate::steps::append;

@@ -3,8 +3,8 @@ ghost use Rattle.std.specs.Prelude.{◌≡◌, ◌-◌, ◌<◌, ◌≤◌, OnOk
 ghost use Rattle.zone_image.specs.Changes.{emptied};
 ghost use Rattle.zone_image.specs.Infos.{info_at, infos_emptied};
 ghost use Rattle.zone_image.specs.Moments.{PassedByReset};
-ghost use Rattle.log_roll.specs.DataKept.{KeepsData};
-ghost use Rattle.log_roll.specs.DeviceSteps.{ChangesDevice};
+ghost use Rattle.zoned_device.specs.DataKept.{KeepsData};
+ghost use Rattle.zoned_device.specs.DeviceSteps.{ChangesDevice};
 ghost use Rattle.log_roll.specs.Resets.{CrashesMetadata, PassedByThreeResets, PassedByTwoResets, cleared, emptied_three, emptied_two, infos_cleared, infos_emptied_three, infos_emptied_two};
 
 use crate::steps::{report, reset};

@@ -3,8 +3,8 @@ ghost use Rattle.std.specs.Prelude.{◌≡◌, ◌+◌, ◌*◌, ◌^◌, ◌<�
 ghost use Rattle.zone_image.specs.Changes.{emptied, synced};
 ghost use Rattle.zone_image.specs.Infos.{active_zones, info_at, infos_emptied, no_info};
 ghost use Rattle.log_model.specs.LogScan.{blocks_of, record_blocks};
-ghost use Rattle.log_roll.specs.DataKept.{KeepsData};
-ghost use Rattle.log_roll.specs.DeviceSteps.{ChangesDevice};
+ghost use Rattle.zoned_device.specs.DataKept.{KeepsData};
+ghost use Rattle.zoned_device.specs.DeviceSteps.{ChangesDevice};
 ghost use Rattle.log_roll.specs.NewLog.{begun, infos_begun};
 ghost use Rattle.log_roll.specs.Resets.{emptied_two, infos_emptied_two};
 ghost use Rattle.log_roll.specs.Rolling.{PassedByOld, PassedByReplace, PassedByRoll, PassedByStart, PassedByWrite, infos_old_closed, next_zone, old_closed, rolled_image, rolled_infos, third_zone};

@@ -4,8 +4,8 @@ ghost use Rattle.zone_image.specs.Image.{IsCrash};
 ghost use Rattle.zone_image.specs.Changes.{blocks_in, appended, finished, emptied, synced};
 ghost use Rattle.zone_image.specs.Infos.{info_at, active_zones, infos_appended, infos_finished, infos_emptied};
 ghost use Rattle.zone_image.specs.Moments.{PassedByAppend, PassedByFinish, PassedByReset};
-ghost use Rattle.log_roll.specs.DataKept.{KeepsData};
-ghost use Rattle.log_roll.specs.DeviceSteps.{ChangesDevice};
+ghost use Rattle.zoned_device.specs.DataKept.{KeepsData};
+ghost use Rattle.zoned_device.specs.DeviceSteps.{ChangesDevice};
 
 use zone_image::ZoneInfo;
 use zoned_device::{DevFault, ZonedDevice};

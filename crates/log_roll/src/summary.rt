@@ -4,6 +4,7 @@ ghost use Rattle.zone_image.specs.Counts.{HasCause};
 ghost use Rattle.zone_image.specs.Image.{zone_at};
 ghost use Rattle.zone_image.specs.Infos.{info_at};
 ghost use Rattle.zone_image.specs.Reads.{OnlyReads};
+ghost use Rattle.zoned_device.specs.Window.{window};
 ghost use Rattle.record_model.specs.Decoding.{record_of};
 ghost use Rattle.log_model.specs.LogScan.{scan};
 ghost use Rattle.log_model.specs.LogSelection.{is_snapshot};
@@ -81,6 +82,7 @@ fn summary_by<D: ZonedDevice>(
     requires same_zone { reader.old.zone ≡ zone }
     requires is_zone { reader.old.zone < (D.geometry dev.old).zones }
     requires same_block { reader.old.block_size ≡ (D.geometry dev.old).block }
+    requires same_window { reader.old.window ≡ window (D.geometry dev.old) }
     requires same_written { reader.old.written ≡ (info_at (D.infos dev.old) reader.old.zone).written }
     requires all_written { reader.old.written ≡ written }
     ensures summary { IfOk result (λ found. D.tells → found ≡ zone_summary geometry.now zone (scan_left reader.old (zone_at (D.image dev.old) reader.old.zone).blocks)) }
@@ -131,6 +133,7 @@ fn rest_of<D: ZonedDevice>(
     requires is_known { D.known dev.old }
     requires is_zone { reader.old.zone < (D.geometry dev.old).zones }
     requires same_block { reader.old.block_size ≡ (D.geometry dev.old).block }
+    requires same_window { reader.old.window ≡ window (D.geometry dev.old) }
     requires same_written { reader.old.written ≡ (info_at (D.infos dev.old) reader.old.zone).written }
     requires all_written { reader.old.written ≡ written }
     ensures rest { IfOk result (λ rest. D.tells → rest ≡ rest_of zone (scan_left reader.old (zone_at (D.image dev.old) reader.old.zone).blocks)) }
@@ -224,6 +227,7 @@ fn tail_of<D: ZonedDevice>(
     requires is_known { D.known dev.old }
     requires is_zone { reader.old.zone < (D.geometry dev.old).zones }
     requires same_block { reader.old.block_size ≡ (D.geometry dev.old).block }
+    requires same_window { reader.old.window ≡ window (D.geometry dev.old) }
     requires same_written { reader.old.written ≡ (info_at (D.infos dev.old) reader.old.zone).written }
     requires all_written { reader.old.written ≡ written }
     ensures tail { IfOk result (λ tail. D.tells → tail ≡ tail_of (scan_left reader.old (zone_at (D.image dev.old) reader.old.zone).blocks)) }

@@ -7,7 +7,7 @@ use Rattle.zone_image.specs.Image.{Image}
 use Rattle.zone_image.specs.Changes.{appended, chunks}
 use Rattle.zone_image.specs.Infos.{IsImage, IsPossible, IsValidImage, active_zones, info_at, infos_of}
 use Rattle.zone_image.proofs.InfoLaws.{some_block, valid_written}
-use Rattle.log_roll.proofs.DeviceCalls.{valid_image}
+use Rattle.zoned_device.proofs.DeviceLaws.{valid_image}
 use Rattle.meta_log.proofs.Adding.{blocks_known, count_of, no_rest}
 
 -- where all is known of the image

@@ -6,9 +6,9 @@ use Rattle.zone_image.specs.declared.ZoneInfo.{ZoneInfo}
 use Rattle.zone_image.specs.Image.{Image, no_zone, zone_at}
 use Rattle.zone_image.specs.Changes.{emptied}
 use Rattle.zone_image.specs.Infos.{Shows, info_at, infos_emptied, no_info}
-use Rattle.log_roll.specs.DataKept.{KeepsData}
+use Rattle.zoned_device.specs.DataKept.{KeepsData}
 use Rattle.log_roll.proofs.ZoneChanges.{other_item, other_zone}
-use Rattle.log_store.specs.OtherData.{KeepsOtherData}
+use Rattle.zoned_device.specs.OtherData.{KeepsOtherData}
 
 -- the number and the seal of a zone behind the first three
 info_behind : (infos : List ZoneInfo) (n : ℕ) → info_at infos (suc (suc (suc n))) ≡ info_at (drop 3 infos) n

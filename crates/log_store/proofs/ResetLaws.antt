@@ -13,7 +13,7 @@ use Rattle.log_model.proofs.CrashLaws.{changed_elsewhere}
 use Rattle.crash_cover.specs.SameData.{HaveSameData}
 use Rattle.crash_cover.proofs.RecoveryLaws.{crash_recovers}
 use Rattle.crash_cover.proofs.StepLaws.{reset_keeps_rest}
-use Rattle.log_roll.proofs.DeviceCalls.{valid_image}
+use Rattle.zoned_device.proofs.DeviceLaws.{valid_image}
 use Rattle.log_store.specs.Resetting.{LeftByReset, RestsWithoutZone}
 use Rattle.log_store.proofs.DataZones.{recovers_before}
 

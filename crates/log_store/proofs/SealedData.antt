@@ -6,9 +6,9 @@ use Rattle.zone_image.specs.declared.ZoneInfo.{ZoneInfo}
 use Rattle.zone_image.specs.Image.{Image, zone_at}
 use Rattle.zone_image.specs.Changes.{change_at, finished}
 use Rattle.zone_image.specs.Infos.{Shows, info_at, info_finished, infos_finished, no_info}
-use Rattle.log_roll.specs.DataKept.{KeepsData}
+use Rattle.zoned_device.specs.DataKept.{KeepsData}
 use Rattle.log_roll.proofs.ZoneChanges.{other_item}
-use Rattle.log_store.specs.OtherData.{KeepsBlocks}
+use Rattle.zoned_device.specs.OtherData.{KeepsBlocks}
 use Rattle.log_store.proofs.OtherData.{info_of_data}
 use Rattle.log_store.proofs.QuietImages.{finished_zone}
 

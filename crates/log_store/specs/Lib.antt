@@ -5,5 +5,4 @@ pub mod Room
 pub mod Adding
 pub mod Resetting
 pub mod RollCalls
-pub mod OtherData
 pub mod Settling

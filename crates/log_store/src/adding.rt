@@ -3,8 +3,8 @@ ghost use Rattle.std.specs.Prelude.{◌≡◌, ◌+◌, ◌<◌, ◌≤◌, true
 ghost use Rattle.zone_image.specs.Changes.{appended, synced};
 ghost use Rattle.zone_image.specs.Infos.{active_zones, info_at, infos_appended};
 ghost use Rattle.log_model.specs.LogSelection.{selected_log};
-ghost use Rattle.log_roll.specs.DataKept.{KeepsData};
-ghost use Rattle.log_roll.specs.DeviceSteps.{ChangesDevice};
+ghost use Rattle.zoned_device.specs.DataKept.{KeepsData};
+ghost use Rattle.zoned_device.specs.DeviceSteps.{ChangesDevice};
 ghost use Rattle.log_store.specs.Adding.{GoesOn, LeftByRecord, RestsWithRecord};
 
 use crate::calls::{append, sync};

@@ -4,9 +4,9 @@ ghost use Rattle.zone_image.specs.Image.{IsCrash};
 ghost use Rattle.zone_image.specs.Changes.{appended, blocks_in, emptied, finished, synced};
 ghost use Rattle.zone_image.specs.Infos.{IsValidImage, active_zones, info_at, infos_appended, infos_emptied, infos_finished};
 ghost use Rattle.zone_image.specs.Moments.{PassedByAppend, PassedByFinish, PassedByReset};
-ghost use Rattle.log_roll.specs.DataKept.{KeepsData};
-ghost use Rattle.log_roll.specs.DeviceSteps.{ChangesDevice};
-ghost use Rattle.log_store.specs.OtherData.{KeepsBlocks, KeepsOtherData};
+ghost use Rattle.zoned_device.specs.DataKept.{KeepsData};
+ghost use Rattle.zoned_device.specs.DeviceSteps.{ChangesDevice};
+ghost use Rattle.zoned_device.specs.OtherData.{KeepsBlocks, KeepsOtherData};
 
 use crate::spelled::SpelledRecord;
 use zone_image::Geometry;

@@ -2,8 +2,8 @@
 ghost use Rattle.std.specs.Prelude.{◌≡◌, ◌<◌, ◌≤◌, OnOk, IsErr, ◌==◌};
 ghost use Rattle.zone_image.specs.Changes.{emptied};
 ghost use Rattle.zone_image.specs.Infos.{infos_emptied};
-ghost use Rattle.log_roll.specs.DeviceSteps.{ChangesDevice};
-ghost use Rattle.log_store.specs.OtherData.{KeepsOtherData};
+ghost use Rattle.zoned_device.specs.DeviceSteps.{ChangesDevice};
+ghost use Rattle.zoned_device.specs.OtherData.{KeepsOtherData};
 ghost use Rattle.log_store.specs.Resetting.{LeftByReset, RestsWithoutZone};
 
 use crate::calls::reset;

@@ -4,9 +4,9 @@ ghost use Rattle.zone_image.specs.Changes.{synced};
 ghost use Rattle.zone_image.specs.Infos.{active_zones};
 ghost use Rattle.log_model.specs.LogScan.{blocks_of};
 ghost use Rattle.log_model.specs.LogSelection.{selected_log};
-ghost use Rattle.log_roll.specs.DeviceSteps.{ChangesDevice};
+ghost use Rattle.zoned_device.specs.DeviceSteps.{ChangesDevice};
 ghost use Rattle.log_roll.specs.Rolling.{IsSnapshot, IsUnwritten, RefusesAs, next_chosen, next_zone, roll_refusal, rolled_infos};
-ghost use Rattle.log_store.specs.OtherData.{KeepsBlocks};
+ghost use Rattle.zoned_device.specs.OtherData.{KeepsBlocks};
 ghost use Rattle.log_store.specs.Settling.{LeftBySeal, LeftBySettling, MountsAlike, PassedBySeal, RestsSettled, infos_sealed, is_sealed_by, sealed_image};
 
 use crate::calls::{seal, sync};

@@ -9,10 +9,12 @@ use Rattle.meta_log.specs.declared.item.Found.TheVariants as found
 use Rattle.meta_log.specs.declared.item.LogItem.{LogItem}
 use Rattle.meta_log.specs.declared.item.LogItem.TheVariants as log_item
 
--- a reader: its zone, the device's block size, the zone's written blocks, the next block, and the end that it found
+-- a reader: its zone, the device's block size and window, the zone's written blocks, the next block, and the end that it
+-- found
 pub record ReaderState : Type 0 where
   pub zone : ℕ
   pub block_size : ℕ
+  pub window : ℕ
   pub written : ℕ
   pub next : ℕ
   pub ended : Option ScanEnd
@@ -21,6 +23,7 @@ pub record ReaderState : Type 0 where
 pub record IsSameLog (old new : ReaderState) : Type 0 where
   pub zone : new.zone ≡ old.zone
   pub block_size : new.block_size ≡ old.block_size
+  pub window : new.window ≡ old.window
   pub written : new.written ≡ old.written
 
 -- the item that stands at a block

@@ -4,6 +4,7 @@ ghost use Rattle.zone_image.specs.Image.{zone_at};
 ghost use Rattle.zone_image.specs.Counts.{HasCause};
 ghost use Rattle.zone_image.specs.Infos.{info_at};
 ghost use Rattle.zone_image.specs.Reads.{OnlyReads};
+ghost use Rattle.zoned_device.specs.Window.{window};
 ghost use Rattle.log_model.specs.LogScan.{blocks_of, first_item, whole_item};
 ghost use Rattle.meta_log.specs.Ends.{scan_end};
 ghost use Rattle.meta_log.specs.Reader.{IsCounted, IsPlaced, IsRecordOf, IsSameLog, IsShort, end_item, first_of, next_item, reader_after, scan_left, with_item};
@@ -23,6 +24,7 @@ use zoned_device::ZonedDevice;
 pub struct LogReader {
     zone: u32,
     block_size: u32,
+    window: u32,
     written: u32,
     next: u32,
     ended: Option<LogEnd>,
@@ -35,7 +37,7 @@ impl Model for LogReader {
 
     ghost Value = { ReaderState };
 
-    ghost view = { λ r. record { zone = r.zone; block_size = r.block_size; written = r.written; next = r.next; ended = option_map scan_end r.ended } };
+    ghost view = { λ r. record { zone = r.zone; block_size = r.block_size; window = r.window; written = r.written; next = r.next; ended = option_map scan_end r.ended } };
 
     ghost invariant = { λ r. r.next ≤ r.written };
 }
@@ -43,11 +45,12 @@ impl Model for LogReader {
 impl LogReader {
     /// A reader at the first block of a zone that has this many written blocks.
     pub fn new(zone: u32, geometry: &Geometry, written: u32) -> LogReader
-        ensures { result ≡ record { zone = zone; block_size = geometry.now.block; written = written; next = 0; ended = None } }
+        ensures { result ≡ record { zone = zone; block_size = geometry.now.block; window = window geometry.now; written = written; next = 0; ended = None } }
     {
         LogReader {
             zone,
             block_size: geometry.block,
+            window: zoned_device::window(geometry),
             written,
             next: 0,
             ended: None,
@@ -61,6 +64,7 @@ impl LogReader {
         requires is_known { D.known dev.old }
         requires is_zone { self.old.zone < (D.geometry dev.old).zones }
         requires same_block { self.old.block_size ≡ (D.geometry dev.old).block }
+        requires same_window { self.old.window ≡ window (D.geometry dev.old) }
         requires same_written { self.old.written ≡ (info_at (D.infos dev.old) self.old.zone).written }
         ensures item { IfOk result (λ item. D.tells → item ≡ next_item self.old (zone_at (D.image dev.old) self.old.zone).blocks) }
         ensures scan { IfOk result (λ item. D.tells → scan_left self.old (zone_at (D.image dev.old) self.old.zone).blocks
@@ -94,6 +98,7 @@ impl LogReader {
         requires is_known { D.known dev.old }
         requires is_zone { self.now.zone < (D.geometry dev.old).zones }
         requires same_block { self.now.block_size ≡ (D.geometry dev.old).block }
+        requires same_window { self.now.window ≡ window (D.geometry dev.old) }
         requires same_written { self.now.written ≡ (info_at (D.infos dev.old) self.now.zone).written }
         ensures first { IfOk result (λ found. D.tells
             → first_item self.now.block_size (drop self.now.next (zone_at (D.image dev.old) self.now.zone).blocks) ≡ first_of found) }
@@ -106,7 +111,15 @@ impl LogReader {
             return Ok(Found::End(LogEnd::Clean));
         }
         let mut record = Vec::new(alloc);
-        read_blocks(dev, self.zone, self.next, 1, self.block_size, &mut record)?;
+        read_blocks(
+            dev,
+            self.zone,
+            self.next,
+            1,
+            self.block_size,
+            self.window,
+            &mut record,
+        )?;
         let len = u32_at(&record, 4);
         let count = blocks_of(u64::from(len), self.block_size);
         if count > u64::from(self.written - self.next) {
@@ -119,6 +132,7 @@ impl LogReader {
             self.next + 1,
             count - 1,
             self.block_size,
+            self.window,
             &mut record,
         )?;
         judged(alloc, self.next, len, count, &record)

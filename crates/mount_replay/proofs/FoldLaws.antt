@@ -2,6 +2,7 @@
 use Rattle.std.proofs.Common.{◌≡◌, ℕ, zero, suc, ◌≤◌, Bool, false, ◌||◌, List, [], ◌∷◌, length, drop, Option, Some, None, Result, Ok, Err, refl, sym, ◌∙◌, ap, subst, arith, length-drop}
 use Rattle.std.specs.List.{All}
 use Rattle.zone_image.specs.declared.Geometry.{Geometry}
+use Rattle.zoned_device.specs.Window.{window}
 use Rattle.zone_image.specs.Image.{Image, zone_at}
 use Rattle.std.proofs.lemmas.List.{nil_from_length}
 use Rattle.std.proofs.lemmas.List.Elements.{All-map}
@@ -107,7 +108,7 @@ last_ends last whole all none before = sym (ap (last_after last) none) ∙ befor
 -- ---- a log whose first payload is its superblock
 
 -- a new reader has the whole log of its zone before it
-pub new_reader : (r : ReaderState) (i : Image) (g : Geometry) (zone written : ℕ) → r ≡ record { zone = zone; block_size = g.block; written = written; next = 0; ended = None } → g ≡ i.geometry
+pub new_reader : (r : ReaderState) (i : Image) (g : Geometry) (zone written : ℕ) → r ≡ record { zone = zone; block_size = g.block; window = window g; written = written; next = 0; ended = None } → g ≡ i.geometry
     → scan_left r (zone_at i r.zone).blocks ≡ scan_at i zone
 unfolding scan
 new_reader r i g zone written is shape =

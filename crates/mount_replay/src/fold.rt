@@ -4,6 +4,7 @@ ghost use Rattle.zone_image.specs.Counts.{HasCause};
 ghost use Rattle.zone_image.specs.Image.{zone_at};
 ghost use Rattle.zone_image.specs.Infos.{info_at};
 ghost use Rattle.zone_image.specs.Reads.{OnlyReads};
+ghost use Rattle.zoned_device.specs.Window.{window};
 ghost use Rattle.log_model.specs.FileTable.{replay_from};
 ghost use Rattle.extent_map.specs.Applying.{rows_of};
 ghost use Rattle.extent_map.specs.Records.{recorded_of};
@@ -41,6 +42,7 @@ pub(crate) fn fold_log<D: ZonedDevice>(
     requires same_length { reader.old.written ≡ log.written }
     requires is_zone { reader.old.zone < (D.geometry dev.old).zones }
     requires same_block { reader.old.block_size ≡ (D.geometry dev.old).block }
+    requires same_window { reader.old.window ≡ window (D.geometry dev.old) }
     requires same_written { reader.old.written ≡ (info_at (D.infos dev.old) reader.old.zone).written }
     requires settled { table.old.rows ≡ rows_of (recorded_of table.old.rows) }
     requires sound { IsSoundTable (recorded_of table.old.rows) }

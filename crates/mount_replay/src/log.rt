@@ -4,6 +4,7 @@ ghost use Rattle.zone_image.specs.Counts.{HasCause};
 ghost use Rattle.zone_image.specs.Image.{zone_at};
 ghost use Rattle.zone_image.specs.Infos.{info_at};
 ghost use Rattle.zone_image.specs.Reads.{OnlyReads};
+ghost use Rattle.zoned_device.specs.Window.{window};
 ghost use Rattle.meta_log.specs.Reader.{IsSameLog, scan_left};
 ghost use Rattle.mount_replay.specs.Payloads.{Takes, IsShortRecord, IsNoDamage};
 
@@ -29,6 +30,7 @@ pub(crate) fn next_record<D: ZonedDevice>(
     requires is_known { D.known dev.old }
     requires is_zone { reader.old.zone < (D.geometry dev.old).zones }
     requires same_block { reader.old.block_size ≡ (D.geometry dev.old).block }
+    requires same_window { reader.old.window ≡ window (D.geometry dev.old) }
     requires same_written { reader.old.written ≡ (info_at (D.infos dev.old) reader.old.zone).written }
     ensures takes { IfOk result (λ found. D.tells → Takes (scan_left reader.old (zone_at (D.image dev.old) reader.old.zone).blocks) found
         (scan_left reader.new (zone_at (D.image dev.old) reader.old.zone).blocks)) }

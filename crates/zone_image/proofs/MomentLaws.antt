@@ -44,15 +44,6 @@ module _ {D : Type 0} {tells : Type 0} {image : D → Image} {tick : D → ℕ} 
     keeps = part.keeps;
   }
 
-  -- what is left, by what a crash since the begin might have left
-  pub only : {a b : D} {P : Image → Type 0} (R : Image → Type 0) → LeavesOnly tick since a b P → ((j : Image) → since b (tick a) j → R j) → LeavesOnly tick since a b R
-  only {a} {b} R part left = record {
-    later = part.later;
-    each = left;
-    splits = part.splits;
-    keeps = part.keeps;
-  }
-
   -- what a crash since an earlier tick might have left, it might have left then already, or it has P
   pub second_law : {a b : D} {P : Image → Type 0} → LeavesOnly tick since a b P → (t : ℕ) (j : Image) → t ≤ tick a → since b t j → since a t j ⊎ P j
   second_law part t j le left = ⊎_elim (λ older. inl older) (λ since_a. inr (part.each j since_a)) (part.splits t j le left)

@@ -1,12 +1,8 @@
 // The limits of a geometry, and byte addresses.
 ghost use Rattle.std.specs.Prelude.{◌≡◌, ◌↔◌, ◌≤◌, IsTrue, IsNone, IfSome};
 ghost use Rattle.zone_image.specs.Address.{is_valid, device_bytes, address_of, IsPlaceOf, IsZoneBytes};
-ghost use Rattle.zone_image.specs.Window.{window};
 
 use crate::{Geometry, Place};
-
-// The most blocks that are read at once of a zone with room for more.
-const MOST_READ: u32 = 64;
 
 impl Geometry {
     /// Whether the five numbers are within their limits.
@@ -47,13 +43,6 @@ impl Geometry {
         } else {
             None
         }
-    }
-
-    /// The most blocks that one read may ask for: 64, and no more than a zone can hold.
-    pub fn window(&self) -> u32
-        ensures { result ≡ window self.now }
-    {
-        self.capacity.min(MOST_READ)
     }
 
     fn zone_bytes(&self) -> u64

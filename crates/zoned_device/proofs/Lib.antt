@@ -8,3 +8,5 @@ mod MemCalls
 mod Records
 mod ZoneLists
 mod WindowReads
+pub mod MomentsWithin
+pub mod DeviceLaws

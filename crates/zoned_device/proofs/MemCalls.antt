@@ -1,12 +1,12 @@
 -- A changing call of a device in memory: what it leaves, and that it keeps what the device keeps.
 use Rattle.std.proofs.Common.{◌≡◌, ◌⊎◌, inl, inr, ⊎_elim, ℕ, ◌<◌, ◌≤◌, Bool, true, List, take, Option, None, Some, Result, Ok, Err, refl, sym, ◌∙◌, ap, subst, arith}
 use Rattle.std.specs.Prelude.{◌==◌, if◌then◌else◌, is_none, is_ok, IsErr}
-use Rattle.std.proofs.lemmas.Bool.{cases_Bool, cases_eq, ne_eqb, and_parts, le-leb, cases_lt}
-use Rattle.zone_image.specs.Counts.{next_count, next_tick, last_tick, HasCause}
+use Rattle.std.proofs.lemmas.Bool.{cases_Bool, cases_eq, ne_eqb, and_parts, cases_lt}
+use Rattle.zone_image.specs.Counts.{next_tick, last_tick, HasCause}
 use Rattle.zone_image.specs.Image.{Image}
 use Rattle.zone_image.specs.Infos.{IsValidImage}
 use Rattle.zone_image.specs.Moments.{LeavesOnly}
-use Rattle.zoned_device.specs.CallState.{CallState, IsWithinLimits, fault_of, begun, change_failed, is_used_up, listed_part}
+use Rattle.zoned_device.specs.CallState.{CallState, IsWithinLimits, fault_of, begun, change_failed}
 use Rattle.zoned_device.specs.Content.{Change, Append, Finish, Reset, Sync, Content, IsValidContent, Passes, AllBefore, has_room, with_change, part_of, with_part, content_after, is_done, calls_after}
 use Rattle.zoned_device.specs.MemState.{MemState, tick_of, since_of}
 use Rattle.zoned_device.specs.MemLaws.{at_the_end}

@@ -1,15 +1,13 @@
 -- Blocks of a zone, window by window.
-use Rattle.std.proofs.Common.{◌≡◌, ℕ, ◌+◌, ◌-◌, ◌*◌, ◌/◌, ◌%◌, ◌<◌, ◌≤◌, List, ◌++◌, length, take, drop, sym, ◌∙◌, ap, subst, arith}
+use Rattle.std.proofs.Common.{◌≡◌, ℕ, ◌+◌, ◌-◌, ◌<◌, ◌≤◌, List, ◌++◌, take, drop, sym, ◌∙◌, ap, arith}
 use Rattle.std.specs.Prelude.{IsTrue}
 use Rattle.std.specs.List.{concat}
 use Rattle.std.proofs.lemmas.List.Folds.{concat-append}
 use Rattle.std.proofs.Common.{take-add, drop-drop}
-use Rattle.std.proofs.Math.Nat.{mul-le-mul_right, mul-mod_left, mul-div_cancel, add-mul}
 use Rattle.zone_image.specs.declared.Geometry.{Geometry}
 use Rattle.zone_image.specs.Image.{Image, is_valid, zone_at}
 use Rattle.zone_image.specs.Changes.{bytes_at}
-use Rattle.zone_image.specs.Window.{window}
-use Rattle.zone_image.proofs.InfoLaws.{some_block}
+use Rattle.zoned_device.specs.Window.{window}
 
 -- a device reads some block at once
 pub some_window : (g : Geometry) → IsTrue (is_valid g) → 0 < window g

@@ -1,5 +1,5 @@
 -- What the calls of a device do to its image.
-use Rattle.std.specs.Prelude.{◌⊎◌, ℕ, ◌*◌, List, length}
+use Rattle.std.specs.Prelude.{ℕ, ◌*◌, List, length}
 use Rattle.zone_image.specs.declared.Geometry.{Geometry}
 use Rattle.zone_image.specs.Image.{Image, IsCrash}
 use Rattle.zone_image.specs.Changes.{appended, finished, emptied, synced}

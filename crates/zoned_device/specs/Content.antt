@@ -1,9 +1,9 @@
 -- What a device in memory holds: its image, and how it came to be.
 pub use Rattle.zoned_device.specs.Change.{Change, Append, Finish, Reset, Sync, after, Passes, written_by}
-use Rattle.std.specs.Prelude.{◌⊎◌, ℕ, ◌==◌, ◌+◌, ◌*◌, ◌<◌, ◌≤◌, Bool, ◌&&◌, List, [], ◌∷◌, ◌++◌, length, take, Option, None, Some, nat_lt, nat_le, if◌then◌else◌, is_none}
+use Rattle.std.specs.Prelude.{◌⊎◌, ℕ, ◌==◌, ◌+◌, ◌*◌, ◌<◌, ◌≤◌, Bool, ◌&&◌, List, [], ◌∷◌, ◌++◌, take, Option, None, Some, nat_lt, nat_le, if◌then◌else◌, is_none}
 use Rattle.zone_image.specs.declared.Geometry.{Geometry}
 use Rattle.zone_image.specs.Address.{device_bytes}
-use Rattle.zone_image.specs.Image.{Image, IsCrash}
+use Rattle.zone_image.specs.Image.{Image}
 use Rattle.zone_image.specs.Infos.{IsValidImage}
 use Rattle.zoned_device.specs.CallState.{CallState, fault_of, begun, change_failed}
 

@@ -1,3 +1,4 @@
+pub mod Window
 pub mod Memory
 pub mod CallState
 pub mod Change
@@ -7,3 +8,6 @@ pub mod Record
 pub mod MemState
 pub mod MemLaws
 pub mod SureState
+pub mod DeviceSteps
+pub mod DataKept
+pub mod OtherData

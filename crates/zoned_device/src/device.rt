@@ -3,7 +3,7 @@ ghost use Rattle.std.specs.Prelude.{Option, Bool, None, Some, ◌≡◌, ◌⊎�
 ghost use Rattle.zone_image.specs.declared.Geometry.{Geometry};
 ghost use Rattle.zone_image.specs.declared.ZoneInfo.{ZoneInfo};
 ghost use Rattle.zone_image.specs.Image.{Image, IsCrash, is_valid};
-ghost use Rattle.zone_image.specs.Window.{window};
+ghost use Rattle.zoned_device.specs.Window.{window};
 ghost use Rattle.zone_image.specs.Changes.{blocks_in, bytes_at, appended, finished, emptied, synced, blank};
 ghost use Rattle.zone_image.specs.Infos.{info_at, active_zones, infos_appended, infos_finished, infos_emptied, infos_blank, IsPossible, IsImage, IsValidImage, Shows, ShowsSome};
 ghost use Rattle.zone_image.specs.Moments.{PassedByAppend, PassedByFinish, PassedByReset, LeavesOnly, KeepsMoments};
@@ -131,7 +131,7 @@ pub trait ZonedDevice: Drop {
         ensures changes { failed_changes self.new ≡ failed_changes self.old }
         ensures after_call { after_call self.old Looking (is_ok result) self.new };
 
-    /// Reads whole blocks of a zone, from this block on, at most `Geometry::window` of them. After a fault the bytes of
+    /// Reads whole blocks of a zone, from this block on, at most `window` of them. After a fault the bytes of
     /// `out` are open.
     fn read(&mut self, zone: u32, block: u32, out: &mut [u8]) -> Result<(), DevFault>
         requires is_known { known self.old }

@@ -21,5 +21,5 @@ pub use failing::Failing;
 pub use fuse_zones::FuseZones;
 pub use mem_zones::MemZones;
 pub use sure_zones::SureZones;
-pub use windows::read_blocks;
+pub use windows::{read_blocks, window};
 pub use zone_image::{Geometry, Place, ZoneInfo};

@@ -4,9 +4,20 @@ ghost use Rattle.zone_image.specs.Changes.{bytes_at};
 ghost use Rattle.zone_image.specs.Counts.{HasCause};
 ghost use Rattle.zone_image.specs.Infos.{info_at};
 ghost use Rattle.zone_image.specs.Reads.{OnlyReads};
-ghost use Rattle.zone_image.specs.Window.{window};
+ghost use Rattle.zoned_device.specs.Window.{window};
 
 use crate::{DevFault, ZonedDevice};
+use zone_image::Geometry;
+
+// The most blocks that are read at once of a zone with room for more.
+const MOST_READ: u32 = 64;
+
+/// The most blocks that one read of a device of this geometry may ask for: 64, and no more than a zone can hold.
+pub fn window(geometry: &Geometry) -> u32
+    ensures { result ≡ window geometry.now }
+{
+    geometry.capacity.min(MOST_READ)
+}
 
 // Reads the first of so many blocks, as many as are read at once, and answers how many these are.
 fn read_window<D: ZonedDevice>(

@@ -1,6 +1,6 @@
 use Rattle.std.proofs.Common.{inr, ap}
 use Rattle.fs_model.specs.FsState.{recorded}
-use Rattle.log_roll.proofs.DeviceCalls.{done_then}
+use Rattle.zoned_device.proofs.DeviceLaws.{done_then}
 use Rattle.fs_core.specs.Beginning.{LeftByBeginning}
 use Rattle.fs_core.specs.DeadZones.{is_free}
 use Rattle.fs_core.proofs.Beginnings.{begun_extents, begun_shape, held_still, kept_by_both, mount_done, mount_fault_before, mount_fault_behind}

@@ -3,7 +3,7 @@ use Rattle.zone_image.specs.Infos.{active_zones}
 use Rattle.log_model.specs.LogSelection.{selected_log}
 use Rattle.fs_model.specs.FsState.{recorded}
 use Rattle.log_roll.specs.Rolling.{RefusesAs, next_chosen, roll_refusal}
-use Rattle.log_roll.proofs.DeviceCalls.{done_as, valid_image}
+use Rattle.zoned_device.proofs.DeviceLaws.{done_as, valid_image}
 use Rattle.log_store.specs.Settling.{RestsSettled, infos_sealed}
 use Rattle.log_store.proofs.SettlingLaws.{only_fault}
 use Rattle.fs_tables.specs.Steps.{infos_in}

@@ -4,7 +4,7 @@ use Rattle.change_steps.specs.Resetting.{after_reset}
 use Rattle.fs_tables.specs.Steps.{infos_in}
 use Rattle.change_cover.specs.Rests.{Stands}
 use Rattle.change_cover.specs.SameTrees.{MountsTheSame}
-use Rattle.log_roll.proofs.DeviceCalls.{done_as}
+use Rattle.zoned_device.proofs.DeviceLaws.{done_as}
 use Rattle.change_cover.specs.Following.{Follows}
 use Rattle.fs_core.proofs.ResetDead.{emptied_follows, emptied_is_valid, infos_reset, moment_mounts}
 use Rattle.fs_core.specs.FsValue.{CanWrite}

@@ -1,6 +1,6 @@
 use Rattle.std.proofs.Common.{refl, ◌∙◌, ap, sym, subst}
 use Rattle.fs_model.specs.FsState.{FsState, recorded}
-use Rattle.log_roll.proofs.DeviceCalls.{done_as, done_then, nothing_done}
+use Rattle.zoned_device.proofs.DeviceLaws.{done_as, done_then, nothing_done}
 use Rattle.change_steps.specs.Resetting.{IsResetting}
 use Rattle.change_steps.proofs.ResetLaws.{resets_begin, resets_go_on}
 use Rattle.change_cover.specs.Rests.{Stands}

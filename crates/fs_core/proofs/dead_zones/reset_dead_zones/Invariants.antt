@@ -1,8 +1,8 @@
 use Rattle.std.proofs.Common.{◌≡◌, length}
 use Rattle.fs_model.specs.FsState.{recorded}
 use Rattle.fs_model.specs.LogSteps.{resettable_zones}
-use Rattle.log_roll.specs.DeviceSteps.{ChangesDevice}
-use Rattle.log_store.specs.OtherData.{KeepsOtherData}
+use Rattle.zoned_device.specs.DeviceSteps.{ChangesDevice}
+use Rattle.zoned_device.specs.OtherData.{KeepsOtherData}
 use Rattle.change_steps.specs.Resetting.{IsResetting}
 use Rattle.change_cover.specs.Rests.{Stands}
 use Rattle.change_cover.specs.SameTrees.{MountsTheSame}

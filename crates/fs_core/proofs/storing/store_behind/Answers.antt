@@ -2,7 +2,7 @@ use Rattle.std.proofs.Common.{◌≡◌, List, drop, length, refl, ◌∙◌, ap
 use Rattle.zone_image.specs.declared.ZoneInfo.{ZoneInfo}
 use Rattle.log_model.specs.declared.selection.Chosen.{Chosen}
 use Rattle.fs_model.specs.FsState.{FsState}
-use Rattle.log_roll.proofs.DeviceCalls.{done_as}
+use Rattle.zoned_device.proofs.DeviceLaws.{done_as}
 use Rattle.fs_tables.specs.Steps.{infos_in}
 use Rattle.fs_tables.proofs.StepLaws.{infos_after_append}
 use Rattle.fs_core.specs.Storing.{LeavesChange}

@@ -10,7 +10,7 @@ use Rattle.change_cover.specs.Stored.{snapshot_of}
 use Rattle.fs_tables.specs.Steps.{infos_in, rolled_infos}
 use Rattle.fs_tables.proofs.StepLaws.{infos_after_append}
 use Rattle.fs_model.specs.FsState.{FsState, recorded}
-use Rattle.log_roll.proofs.DeviceCalls.{done_as}
+use Rattle.zoned_device.proofs.DeviceLaws.{done_as}
 use Rattle.fs_core.specs.Storing.{LeavesChange}
 use Rattle.fs_core.proofs.StoredChange.{can_snapshot, leaves_rolled, stores_rolled}
 use Rattle.fs_core.proofs.StoredLog.{nothing_refused, only_fault, rolled_log, same_append, takes_behind_roll}

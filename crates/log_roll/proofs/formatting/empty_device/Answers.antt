@@ -4,7 +4,7 @@ use Rattle.zone_image.specs.Changes.{blank, synced}
 use Rattle.zone_image.specs.Infos.{infos_blank}
 use Rattle.log_roll.specs.Resets.{CrashesMetadata, cleared, emptied_three, infos_cleared, infos_emptied_three}
 use Rattle.log_roll.specs.Formatting.{PassedByFirstResets}
-use Rattle.log_roll.proofs.DeviceCalls.{both_done}
+use Rattle.zoned_device.proofs.DeviceLaws.{both_done}
 use Rattle.log_roll.proofs.Blanking.{ok_then, infos_blanked, image_blanked}
 use Rattle.log_roll.proofs.formatting.empty_device.Goals as goal
 

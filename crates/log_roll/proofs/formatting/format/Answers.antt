@@ -1,6 +1,6 @@
 use Rattle.std.proofs.Common.{subst}
 use Rattle.log_roll.specs.Formatting.{LeftByFormat}
-use Rattle.log_roll.proofs.DeviceCalls.{done_as, done_then, only_read}
+use Rattle.zoned_device.proofs.DeviceLaws.{done_as, done_then, only_read}
 use Rattle.log_roll.proofs.FormatMoments.{unformatted}
 use Rattle.log_roll.proofs.formatting.format.Goals as goal
 

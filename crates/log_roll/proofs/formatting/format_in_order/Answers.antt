@@ -8,7 +8,7 @@ use Rattle.log_roll.specs.FormatLeaves.{HasNewLog}
 use Rattle.log_roll.proofs.FormatSelects.{formatted_log}
 use Rattle.log_roll.specs.Formatting.{LeftByFormat}
 use Rattle.log_roll.proofs.FormatMoments.{format_passed, unformatted}
-use Rattle.log_roll.proofs.DeviceCalls.{done_as, nothing_done}
+use Rattle.zoned_device.proofs.DeviceLaws.{done_as, nothing_done}
 use Rattle.log_roll.proofs.Formatted.{formatted_is, formatted_infos, empty_snapshot}
 use Rattle.log_roll.proofs.formatting.format_in_order.Goals as goal
 

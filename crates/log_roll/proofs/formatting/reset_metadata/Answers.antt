@@ -1,7 +1,7 @@
 use Rattle.zone_image.specs.Image.{IsCrash}
 use Rattle.zone_image.specs.Changes.{synced}
 use Rattle.log_roll.specs.Resets.{PassedByThreeResets}
-use Rattle.log_roll.proofs.DeviceCalls.{both_done}
+use Rattle.zoned_device.proofs.DeviceLaws.{both_done}
 use Rattle.log_roll.proofs.formatting.reset_metadata.Goals as goal
 
 pub returns-clause-device : goal.returns-clause-device

@@ -3,7 +3,7 @@ use Rattle.zone_image.specs.Image.{IsCrash}
 use Rattle.log_model.specs.LogScan.{record_blocks}
 use Rattle.log_roll.specs.NewLog.{PassedByNewLog, begun}
 use Rattle.log_roll.specs.declared.formatting.TheConstants.{EMPTY_SNAPSHOT}
-use Rattle.log_roll.proofs.DeviceCalls.{both_done}
+use Rattle.zoned_device.proofs.DeviceLaws.{both_done}
 use Rattle.log_roll.proofs.formatting.write_first_log.Goals as goal
 
 pub returns-clause-device : goal.returns-clause-device

@@ -1,6 +1,6 @@
 use Rattle.zone_image.specs.Moments.{PassedByFinish}
 use Rattle.log_roll.specs.Rolling.{PassedByEnd, ended}
-use Rattle.log_roll.proofs.DeviceCalls.{both_done}
+use Rattle.zoned_device.proofs.DeviceLaws.{both_done}
 use Rattle.log_roll.proofs.KeptData.{both_kept}
 use Rattle.log_roll.proofs.log_end.close_log.Goals as goal
 

@@ -1,6 +1,6 @@
 use Rattle.std.proofs.Common.{inl, subst}
 use Rattle.log_roll.specs.Rolling.{PassedByEnd}
-use Rattle.log_roll.proofs.DeviceCalls.{done_then}
+use Rattle.zoned_device.proofs.DeviceLaws.{done_then}
 use Rattle.log_roll.proofs.KeptData.{both_kept}
 use Rattle.log_roll.proofs.log_end.end_log.Goals as goal
 

@@ -2,7 +2,7 @@ use Rattle.std.proofs.Common.{◌≡◌, ◌∙◌, inr, subst, sym}
 use Rattle.zone_image.specs.declared.Geometry.{Geometry}
 use Rattle.zone_image.specs.Moments.{PassedByAppend}
 use Rattle.log_roll.specs.Rolling.{PassedByEnd, end_blocks, ended}
-use Rattle.log_roll.proofs.DeviceCalls.{done_as}
+use Rattle.zoned_device.proofs.DeviceLaws.{done_as}
 use Rattle.log_roll.proofs.Blanking.{ok_then}
 use Rattle.log_roll.proofs.Closing.{may_end, told_info, ended_true, ended_false}
 use Rattle.log_roll.proofs.KeptData.{kept_same}

@@ -4,7 +4,7 @@ use Rattle.zone_image.specs.Changes.{blocks_in, chunks}
 use Rattle.zone_image.specs.Moments.{PassedByAppend}
 use Rattle.meta_log.proofs.Adding.{blocks_known}
 use Rattle.meta_log.proofs.Reading.{block_positive}
-use Rattle.log_roll.specs.DeviceSteps.{ChangesDevice}
+use Rattle.zoned_device.specs.DeviceSteps.{ChangesDevice}
 use Rattle.log_roll.proofs.records.append_blocks.Goals as goal
 
 pub returns-clause-device : goal.returns-clause-device

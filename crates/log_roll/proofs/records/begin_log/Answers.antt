@@ -5,7 +5,7 @@ use Rattle.zone_image.specs.Changes.{appended}
 use Rattle.zone_image.specs.Infos.{info_at}
 use Rattle.zone_image.specs.Moments.{PassedByAppend}
 use Rattle.log_model.specs.LogScan.{blocks_of, record_blocks}
-use Rattle.log_roll.proofs.DeviceCalls.{both_done}
+use Rattle.zoned_device.proofs.DeviceLaws.{both_done}
 use Rattle.log_roll.proofs.ZoneChanges.{begun_info, record_has_block}
 use Rattle.log_roll.proofs.KeptData.{both_kept}
 use Rattle.log_roll.proofs.records.begin_log.Goals as goal

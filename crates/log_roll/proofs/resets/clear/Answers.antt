@@ -1,6 +1,6 @@
 use Rattle.std.proofs.Common.{inl, subst}
 use Rattle.zone_image.specs.Moments.{PassedByReset}
-use Rattle.log_roll.proofs.DeviceCalls.{done_then}
+use Rattle.zoned_device.proofs.DeviceLaws.{done_then}
 use Rattle.log_roll.proofs.KeptData.{both_kept}
 use Rattle.log_roll.proofs.resets.clear.Goals as goal
 

@@ -3,7 +3,7 @@ use Rattle.zone_image.specs.Infos.{no_info, infos_emptied}
 use Rattle.zone_image.specs.Changes.{emptied}
 use Rattle.zone_image.specs.Image.{no_zone}
 use Rattle.log_roll.specs.Resets.{CrashesMetadata}
-use Rattle.log_roll.proofs.DeviceCalls.{nothing_done, done_as, done_then}
+use Rattle.zoned_device.proofs.DeviceLaws.{nothing_done, done_as, done_then}
 use Rattle.log_roll.proofs.ZoneChanges.{cleared_metadata, fill_one_more, reset_metadata}
 use Rattle.log_roll.proofs.resets.clear_data.Goals as goal
 

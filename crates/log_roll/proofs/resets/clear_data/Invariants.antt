@@ -1,5 +1,5 @@
 use Rattle.std.proofs.Common.{◌≡◌, ◌-◌}
-use Rattle.log_roll.specs.DeviceSteps.{ChangesDevice}
+use Rattle.zoned_device.specs.DeviceSteps.{ChangesDevice}
 use Rattle.log_roll.specs.Resets.{CrashesMetadata, cleared, infos_cleared}
 use Rattle.log_roll.proofs.resets.clear_data.Given as goal
 

@@ -1,7 +1,7 @@
 use Rattle.log_roll.proofs.KeptData.{both_kept}
 use Rattle.zone_image.specs.Changes.{emptied}
 use Rattle.zone_image.specs.Moments.{PassedByReset}
-use Rattle.log_roll.proofs.DeviceCalls.{both_done}
+use Rattle.zoned_device.proofs.DeviceLaws.{both_done}
 use Rattle.log_roll.proofs.resets.clear_two.Goals as goal
 
 pub returns-clause-data_kept : goal.returns-clause-data_kept

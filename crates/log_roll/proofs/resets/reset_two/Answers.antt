@@ -1,6 +1,6 @@
 use Rattle.zone_image.specs.Changes.{emptied}
 use Rattle.zone_image.specs.Moments.{PassedByReset}
-use Rattle.log_roll.proofs.DeviceCalls.{both_done}
+use Rattle.zoned_device.proofs.DeviceLaws.{both_done}
 use Rattle.log_roll.proofs.resets.reset_two.Goals as goal
 
 pub returns-clause-device : goal.returns-clause-device

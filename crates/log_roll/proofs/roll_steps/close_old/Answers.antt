@@ -2,10 +2,10 @@ use Rattle.std.proofs.Common.{◌≡◌, ◌<◌, false, true, length, ap, sym, 
 use Rattle.zone_image.specs.declared.Geometry.{Geometry}
 use Rattle.zone_image.specs.Changes.{synced}
 use Rattle.zone_image.specs.Infos.{info_at, active_zones}
-use Rattle.log_roll.specs.DeviceSteps.{ChangesDevice}
+use Rattle.zoned_device.specs.DeviceSteps.{ChangesDevice}
 use Rattle.log_roll.specs.Resets.{emptied_two, infos_emptied_two}
 use Rattle.log_roll.specs.Rolling.{PassedByClose, PassedByStart, next_zone, third_zone}
-use Rattle.log_roll.proofs.DeviceCalls.{both_done}
+use Rattle.zoned_device.proofs.DeviceLaws.{both_done}
 use Rattle.log_roll.proofs.Rolled.{active_started}
 use Rattle.log_roll.proofs.KeptData.{both_kept}
 use Rattle.log_roll.proofs.roll_steps.close_old.Goals as goal

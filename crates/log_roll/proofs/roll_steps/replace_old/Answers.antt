@@ -3,10 +3,10 @@ use Rattle.zone_image.specs.declared.Geometry.{Geometry}
 use Rattle.zone_image.specs.Changes.{synced}
 use Rattle.zone_image.specs.Moments.{PassedByReset}
 use Rattle.log_model.specs.LogScan.{record_blocks}
-use Rattle.log_roll.specs.DeviceSteps.{ChangesDevice}
+use Rattle.zoned_device.specs.DeviceSteps.{ChangesDevice}
 use Rattle.log_roll.specs.NewLog.{begun}
 use Rattle.log_roll.specs.Rolling.{PassedByWrite, next_zone, PassedByReplace}
-use Rattle.log_roll.proofs.DeviceCalls.{both_done, done_as}
+use Rattle.zoned_device.proofs.DeviceLaws.{both_done, done_as}
 use Rattle.log_roll.proofs.KeptData.{both_kept}
 use Rattle.log_roll.proofs.roll_steps.replace_old.Goals as goal
 

@@ -2,7 +2,7 @@ use Rattle.log_roll.proofs.KeptData.{both_kept}
 use Rattle.zone_image.specs.Image.{IsCrash}
 use Rattle.zone_image.specs.Changes.{synced}
 use Rattle.log_roll.specs.Resets.{PassedByTwoResets}
-use Rattle.log_roll.proofs.DeviceCalls.{both_done}
+use Rattle.zoned_device.proofs.DeviceLaws.{both_done}
 use Rattle.log_roll.proofs.roll_steps.start_roll.Goals as goal
 
 pub returns-clause-data_kept : goal.returns-clause-data_kept

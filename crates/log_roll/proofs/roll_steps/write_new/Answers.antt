@@ -2,7 +2,7 @@ use Rattle.zone_image.specs.declared.Geometry.{Geometry}
 use Rattle.zone_image.specs.Image.{IsCrash}
 use Rattle.log_model.specs.LogScan.{record_blocks}
 use Rattle.log_roll.specs.NewLog.{PassedByNewLog, begun}
-use Rattle.log_roll.proofs.DeviceCalls.{both_done, done_as}
+use Rattle.zoned_device.proofs.DeviceLaws.{both_done, done_as}
 use Rattle.log_roll.proofs.KeptData.{both_kept}
 use Rattle.std.proofs.Common.{inl, refl, rules}
 use Rattle.log_roll.specs.Rolling.{PassedByWrite}

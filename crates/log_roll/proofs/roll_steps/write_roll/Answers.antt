@@ -6,7 +6,7 @@ use Rattle.log_model.specs.LogScan.{blocks_of, record_blocks}
 use Rattle.log_model.proofs.RecordLaws.{length_record}
 use Rattle.log_roll.specs.NewLog.{begun, infos_begun}
 use Rattle.log_roll.specs.Rolling.{PassedByOld, PassedByReplace, next_zone, old_closed, rolled_image, rolled_infos}
-use Rattle.log_roll.proofs.DeviceCalls.{both_done, first_done}
+use Rattle.zoned_device.proofs.DeviceLaws.{both_done, first_done}
 use Rattle.log_roll.proofs.Blanking.{ok_then}
 use Rattle.log_roll.proofs.ZoneChanges.{zones_of_image}
 use Rattle.log_roll.proofs.Rolled.{active_closed, next_empty, infos_rolled, image_rolled}

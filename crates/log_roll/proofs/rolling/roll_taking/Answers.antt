@@ -1,5 +1,5 @@
 use Rattle.log_roll.specs.RollLeaves.{LeftByRoll}
-use Rattle.log_roll.proofs.DeviceCalls.{done_as, nothing_done}
+use Rattle.zoned_device.proofs.DeviceLaws.{done_as, nothing_done}
 use Rattle.log_roll.proofs.RollCrash.{crash_is_old}
 use Rattle.log_roll.proofs.KeptData.{kept_same}
 use Rattle.log_roll.proofs.rolling.roll_taking.Goals as goal

@@ -1,6 +1,6 @@
 use Rattle.std.proofs.Common.{length}
 use Rattle.log_roll.specs.RollLeaves.{LeftByRoll}
-use Rattle.log_roll.proofs.DeviceCalls.{done_as, nothing_done}
+use Rattle.zoned_device.proofs.DeviceLaws.{done_as, nothing_done}
 use Rattle.log_roll.proofs.RollCrash.{crash_is_old}
 use Rattle.log_roll.proofs.RollMoments.{refusal_is_no_fault}
 use Rattle.log_roll.proofs.KeptData.{kept_same}

@@ -7,7 +7,7 @@ use Rattle.log_model.specs.LogScan.{record_blocks}
 use Rattle.log_roll.specs.FormatLeaves.{HasNewLog}
 use Rattle.log_roll.specs.Rolling.{next_superblock, next_zone, rolled_image}
 use Rattle.log_roll.specs.RollLeaves.{LeftByRoll}
-use Rattle.log_roll.proofs.DeviceCalls.{done_as}
+use Rattle.zoned_device.proofs.DeviceLaws.{done_as}
 use Rattle.log_roll.proofs.RollMoments.{roll_passed}
 use Rattle.log_roll.proofs.RollFacts.{some_payload, short_payload}
 use Rattle.log_roll.proofs.Rolled.{next_is_other}

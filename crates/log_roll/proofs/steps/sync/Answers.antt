@@ -1,4 +1,4 @@
-use Rattle.log_roll.proofs.DeviceCalls.{counts_may, valid_image, sync_stands}
+use Rattle.zoned_device.proofs.DeviceLaws.{counts_may, valid_image, sync_stands}
 use Rattle.log_roll.proofs.KeptData.{kept_synced}
 use Rattle.log_roll.proofs.steps.sync.Goals as goal
 

@@ -18,7 +18,7 @@ loop-left-init g c =
     record {
       reads = reads_nothing g.met.D.ZonedDevice.moments dev c.requires.is_known;
       faults = omega arith;
-      same = record { zone = refl; block_size = refl; written = refl };
+      same = record { zone = refl; block_size = refl; window = refl; written = refl };
       read = λ told.
           let count : (info_at (D.infos dev) reader.zone).written ≡ length blocks =
           written_is (D.geometry dev) (D.infos dev) (D.image dev) reader.zone (g.met.D.ZonedDevice.possible dev c.requires.is_known) (g.met.D.ZonedDevice.told dev told c.requires.is_known) c.requires.is_zone in
@@ -48,6 +48,7 @@ loop-left-preserved g c =
       same = record {
         zone = c.next_record.ensures.same.zone ∙ it.same.zone;
         block_size = c.next_record.ensures.same.block_size ∙ it.same.block_size;
+        window = c.next_record.ensures.same.window ∙ it.same.window;
         written = c.next_record.ensures.same.written ∙ it.same.written;
       };
       read = λ told.

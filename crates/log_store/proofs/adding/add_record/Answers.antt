@@ -1,7 +1,7 @@
 use Rattle.std.proofs.Common.{refl, subst, sym, ap, ◌∙◌}
 use Rattle.zone_image.specs.Changes.{synced}
 use Rattle.log_roll.proofs.Blanking.{ok_then}
-use Rattle.log_roll.proofs.DeviceCalls.{done_as, done_then, whole_append}
+use Rattle.zoned_device.proofs.DeviceLaws.{done_as, done_then, whole_append}
 use Rattle.log_store.specs.Adding.{GoesOn, LeftByRecord, RestsWithRecord}
 use Rattle.log_store.proofs.AddingLaws.{goes_on_with_record, left_by_append, rests_with_record}
 use Rattle.log_roll.proofs.KeptData.{both_kept}

@@ -6,7 +6,7 @@ use Rattle.zone_image.specs.declared.Geometry.{Geometry}
 use Rattle.zone_image.specs.Moments.{PassedByAppend}
 use Rattle.meta_log.proofs.Adding.{blocks_known}
 use Rattle.meta_log.proofs.Reading.{block_positive}
-use Rattle.log_roll.specs.DeviceSteps.{ChangesDevice}
+use Rattle.zoned_device.specs.DeviceSteps.{ChangesDevice}
 use Rattle.log_store.proofs.calls.append.Goals as goal
 
 pub returns-clause-valid : goal.returns-clause-valid

@@ -1,6 +1,6 @@
 use Rattle.std.proofs.Common.{inl, length, ◌/◌}
 use Rattle.zone_image.specs.Changes.{blocks_in}
-use Rattle.log_roll.proofs.DeviceCalls.{whole_append}
+use Rattle.zoned_device.proofs.DeviceLaws.{whole_append}
 use Rattle.log_roll.proofs.KeptData.{kept_appended, kept_failed}
 use Rattle.log_store.proofs.calls.append_bytes.Goals as goal
 

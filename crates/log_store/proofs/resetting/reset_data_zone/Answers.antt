@@ -1,6 +1,6 @@
 use Rattle.std.proofs.Common.{subst, sym}
 use Rattle.log_roll.proofs.Blanking.{ok_then}
-use Rattle.log_roll.proofs.DeviceCalls.{done_as}
+use Rattle.zoned_device.proofs.DeviceLaws.{done_as}
 use Rattle.log_store.specs.Resetting.{LeftByReset, RestsWithoutZone}
 use Rattle.log_store.proofs.ResetLaws.{emptied_valid, left_by_reset, rests_without_zone}
 use Rattle.log_store.proofs.resetting.reset_data_zone.Goals as goal

@@ -8,7 +8,7 @@ use Rattle.log_model.specs.declared.selection.Chosen.{Chosen}
 use Rattle.meta_log.proofs.Reading.{block_positive, blocks_positive}
 use Rattle.log_roll.specs.Rolling.{next_superblock, next_zone}
 use Rattle.log_roll.proofs.Blanking.{ok_then}
-use Rattle.log_roll.proofs.DeviceCalls.{done_as, done_then}
+use Rattle.zoned_device.proofs.DeviceLaws.{done_as, done_then}
 use Rattle.log_roll.proofs.Rolled.{next_is_other}
 use Rattle.log_store.specs.RollCalls.{GoesOnRolled, LeftByBoth, RestsRolled}
 use Rattle.log_store.proofs.RollCallLaws.{goes_on_rolled, left_before, left_behind, new_info, rests_rolled}

@@ -2,7 +2,7 @@ use Rattle.std.proofs.Common.{◌++◌}
 use Rattle.superblock_core.specs.Superblock.{superblock_bytes}
 use Rattle.log_model.specs.LogScan.{record_blocks}
 use Rattle.log_roll.specs.Rolling.{next_superblock}
-use Rattle.log_roll.proofs.DeviceCalls.{done_as, valid_image}
+use Rattle.zoned_device.proofs.DeviceLaws.{done_as, valid_image}
 use Rattle.log_store.specs.RollCalls.{LeftBySnapshot, RestsWithSnapshot}
 use Rattle.log_store.proofs.RollCallLaws.{left_by_snapshot, ok_both, rests_with_snapshot}
 use Rattle.log_store.proofs.rolling.roll_log.Goals as goal

@@ -1,5 +1,5 @@
 use Rattle.std.proofs.Common.{subst, sym}
-use Rattle.log_roll.proofs.DeviceCalls.{done_as, nothing_done}
+use Rattle.zoned_device.proofs.DeviceLaws.{done_as, nothing_done}
 use Rattle.log_store.specs.Settling.{PassedBySeal, is_sealed_by}
 use Rattle.log_store.proofs.SealedData.{same_blocks}
 use Rattle.log_store.proofs.settle.seal_any.Goals as goal

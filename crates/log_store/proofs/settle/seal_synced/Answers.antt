@@ -1,5 +1,5 @@
 use Rattle.std.proofs.Common.{inl}
-use Rattle.log_roll.proofs.DeviceCalls.{done_as, done_then}
+use Rattle.zoned_device.proofs.DeviceLaws.{done_as, done_then}
 use Rattle.log_store.specs.Settling.{LeftBySeal, is_sealed_by}
 use Rattle.log_store.proofs.QuietImages.{seal_leaves}
 use Rattle.log_store.proofs.SealedData.{blocks_of_all, blocks_of_both}

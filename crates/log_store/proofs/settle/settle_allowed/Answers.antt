@@ -3,7 +3,7 @@ use Rattle.zone_image.specs.Image.{Image}
 use Rattle.superblock_core.specs.Superblock.{superblock_bytes}
 use Rattle.log_model.specs.LogScan.{record_blocks}
 use Rattle.log_roll.specs.Rolling.{RefusesAs, next_superblock}
-use Rattle.log_roll.proofs.DeviceCalls.{done_as, done_then, valid_image}
+use Rattle.zoned_device.proofs.DeviceLaws.{done_as, done_then, valid_image}
 use Rattle.log_store.specs.Settling.{LeftBySettling, MountsAlike, RestsSettled, is_sealed_by}
 use Rattle.log_store.proofs.QuietImages.{IsQuiet, quiet_sealed}
 use Rattle.log_store.proofs.RollCallLaws.{ok_both}

@@ -1,5 +1,5 @@
 use Rattle.std.proofs.Common.{inl, length}
-use Rattle.log_roll.proofs.DeviceCalls.{done_as, nothing_done}
+use Rattle.zoned_device.proofs.DeviceLaws.{done_as, nothing_done}
 use Rattle.log_roll.proofs.RollMoments.{refusal_is_no_fault}
 use Rattle.log_store.specs.Settling.{LeftBySettling, is_sealed_by}
 use Rattle.log_store.proofs.SealedData.{same_blocks}

@@ -27,6 +27,7 @@ same_on : (a b c : ReaderState) → IsSameLog a b → IsSameLog b c → IsSameLo
 same_on a b c first second = record {
   zone = second.zone ∙ first.zone;
   block_size = second.block_size ∙ first.block_size;
+  window = second.window ∙ first.window;
   written = second.written ∙ first.written;
 }
 

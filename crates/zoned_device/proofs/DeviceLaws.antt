@@ -13,7 +13,7 @@ use Rattle.zone_image.specs.Reads.{OnlyReads}
 use Rattle.zone_image.specs.Counts.{Counts, HasCause, next_count}
 use Rattle.zone_image.proofs.CrashLaws.{crash_before_sync}
 use Rattle.zone_image.proofs.MomentLaws.{stays, goes_on, weaker}
-use Rattle.log_roll.specs.DeviceSteps.{ChangesDevice, MayCount, Then}
+use Rattle.zoned_device.specs.DeviceSteps.{ChangesDevice, MayCount, Then}
 
 -- an image of a device is one that it may have
 pub valid_image : (g : Geometry) (infos : List ZoneInfo) (i : Image) → IsPossible g infos → IsImage g infos i → IsValidImage i
