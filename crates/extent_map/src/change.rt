@@ -4,7 +4,7 @@ ghost use Rattle.std.specs.Prelude.{◌≡◌, ◌+◌, ◌^◌, ◌<◌, ◌≤
 ghost use Rattle.std.specs.Option.{ForSome};
 ghost use Rattle.log_model.specs.FileTable.{size_of};
 ghost use Rattle.log_model.specs.TableLaws.{IdsRise};
-ghost use Rattle.fs_model.specs.FileSteps.{moved, note, shown_row};
+ghost use Rattle.fs_model.specs.FileSteps.{committed, moved, note, shown_row, with_recovery_point};
 ghost use Rattle.extent_map.specs.Lookups.{extents_of};
 ghost use Rattle.extent_map.specs.Spare.{extents_more, spare_at};
 ghost use Rattle.fs_model.specs.FsState.{on_row, row_of};
@@ -94,6 +94,31 @@ impl FileTable {
         let at = index_of(&self.rows, id).unwrap();
         let row = &mut self.rows[at];
         row.record(active);
+    }
+
+    /// Takes all extents of a file as recorded, all its bytes as shown, and its recovery point away; where
+    /// it shows more bytes so, its time is this one. It takes no memory.
+    pub fn commit(&mut self, id: u64, now: u64)
+        requires { IsSome (row_of id self.old.rows) }
+        ensures rows { self.new.rows ≡ on_row id (committed now) self.old.rows }
+        ensures greatest { self.new.greatest ≡ self.old.greatest }
+    {
+        self.holders = None;
+        let at = index_of(&self.rows, id).unwrap();
+        let row = &mut self.rows[at];
+        row.commit(now);
+    }
+
+    /// Sets where the next frames of a file begin. It takes no memory.
+    pub fn set_point(&mut self, id: u64, start: u64)
+        requires { IsSome (row_of id self.old.rows) }
+        ensures rows { self.new.rows ≡ on_row id (with_recovery_point start) self.old.rows }
+        ensures greatest { self.new.greatest ≡ self.old.greatest }
+    {
+        self.holders = None;
+        let at = index_of(&self.rows, id).unwrap();
+        let row = &mut self.rows[at];
+        row.set_point(start);
     }
 }
 

@@ -7,6 +7,7 @@ mod change_lengths;
 mod clearing;
 mod copies;
 mod create;
+mod data_records;
 mod error;
 mod extents;
 mod holders;

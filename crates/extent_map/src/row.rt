@@ -4,7 +4,7 @@ ghost use Rattle.std.specs.Prelude.{◌≡◌, ◌↔◌, ◌+◌, ◌^◌, ◌<
 ghost use Rattle.log_model.specs.FileTable.{grown, is_among, is_named, size_of};
 ghost use Rattle.log_model.specs.FileTree.{renamed};
 ghost use Rattle.fs_model.specs.FsState.{mounted_row};
-ghost use Rattle.fs_model.specs.FileSteps.{moved, note, shown_row};
+ghost use Rattle.fs_model.specs.FileSteps.{commit_time, committed, moved, note, shown_row, with_recovery_point};
 ghost use Rattle.fs_model.specs.TreeSteps.{cleared, with_names};
 ghost use Rattle.extent_map.specs.Lookups.{extents_of};
 ghost use Rattle.extent_map.specs.Changes.{recorded_row, joined_row};
@@ -152,6 +152,33 @@ impl Row {
             self.join();
         }
         self.entry.active = active;
+    }
+
+    /// The time that a commit records: this one where it shows more bytes, else that of the file.
+    pub(crate) fn commit_time(&self, now: u64) -> u64
+        ensures { result ≡ commit_time now self.now }
+    {
+        if self.shown < self.entry.size + size_of(&self.unrecorded) {
+            now
+        } else {
+            self.entry.time
+        }
+    }
+
+    /// Takes all extents as recorded, all bytes as shown, and the recovery point away.
+    pub(crate) fn commit(&mut self, now: u64)
+        ensures { self.new ≡ committed now self.old }
+    {
+        let time = self.commit_time(now);
+        self.entry.time = time;
+        self.record(NO_ACTIVE);
+    }
+
+    /// Sets the recovery point.
+    pub(crate) fn set_point(&mut self, start: u64)
+        ensures { self.new ≡ with_recovery_point start self.old }
+    {
+        self.entry.active = start;
     }
 
     /// Takes all extents as recorded, and all bytes as shown.
