@@ -5,7 +5,7 @@ use Rattle.std.proofs.lemmas.Grind.{div_ceil_times}
 use Rattle.log_model.specs.LogScan.{blocks_of}
 use Rattle.log_model.specs.Headroom.{greatest_blocks}
 use Rattle.log_model.proofs.LengthLaws.{blocks_grow}
-use Rattle.std.proofs.Common.{⊎_elim, ◌∙◌, ◌≡◌, ℕ, ◌+◌, ◌*◌, ◌<◌, ◌≤◌, cond, List, [], ◌∷◌, ◌++◌, drop, get_or, length, max, refl, ap, arith, add-one, drop-cons, length-append}
+use Rattle.std.proofs.Common.{⊎_elim, ◌∙◌, ◌≡◌, ℕ, ◌+◌, ◌*◌, ◌<◌, ◌≤◌, cond, List, [], ◌∷◌, ◌++◌, drop, get_or, length, map, max, refl, ap, arith, add-one, drop-cons, length-append}
 use Rattle.std.specs.List.{flat_map}
 use Rattle.record_model.specs.Numbers.{u32, varint}
 use Rattle.record_model.specs.Encoding.{field_bytes, entry_bytes, payload_of, slice}
@@ -41,6 +41,15 @@ pub longest_more : (i : ℕ) (rows : List TableRow) (r : TableRow) (longest next
 longest_more i rows r longest next all lt is next_is h =
     let split : drop i rows ≡ r ∷ drop (i + 1) rows = rw (drop-cons rows i r lt, ← is, add-one) refl in
     let rest = ap (λ (rs : List TableRow). greatest_len (working_of rs)) split in
+    omega (arith, rest, next_is, h)
+
+-- the same of rows that are changed each
+pub longest_changed : (g : TableRow → TableRow) (i : ℕ) (rows : List TableRow) (r : TableRow) (longest next all : ℕ) → i < length rows → r ≡ get_or rows i r
+    → next ≡ told (length (payload_of (Update (working_entry (g r)))))
+    → max longest (told (greatest_len (working_of (map g (drop i rows))))) ≡ all → max (max longest next) (told (greatest_len (working_of (map g (drop (i + 1) rows))))) ≡ all
+longest_changed g i rows r longest next all lt is next_is h =
+    let split : drop i rows ≡ r ∷ drop (i + 1) rows = rw (drop-cons rows i r lt, ← is, add-one) refl in
+    let rest = ap (λ (rs : List TableRow). greatest_len (working_of (map g rs))) split in
     omega (arith, rest, next_is, h)
 
 -- no update is longer than the entries in their slices

@@ -2,6 +2,7 @@ pub mod Applying
 pub mod ChangeLengths
 pub mod Changes
 pub mod Creating
+pub mod ExtentLengths
 pub mod Holding
 pub mod IdOrder
 pub mod Lookups

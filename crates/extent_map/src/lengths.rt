@@ -24,7 +24,7 @@ use record_model::Name;
 const TAG_BYTES: u64 = 4;
 
 /// The bytes of an extent's field: the tag, the length, and two 64-bit numbers.
-const EXTENT_FIELD_BYTES: u64 = TAG_BYTES + 1 + 16;
+pub(crate) const EXTENT_FIELD_BYTES: u64 = TAG_BYTES + 1 + 16;
 
 /// The bytes of an id, a size, a hint, a time and an active start.
 const FIXED_FIELDS_BYTES: u64 = 4 * (TAG_BYTES + 8) + (TAG_BYTES + 4);
@@ -81,7 +81,7 @@ pub(crate) fn entries_len(rows: &[Row]) -> u64
 }
 
 /// The bytes of a file's entry with all its extents.
-fn working_len(row: &Row) -> u64
+pub(crate) fn working_len(row: &Row) -> u64
     ensures { result ≡ told (length (entry_bytes (working_entry row.now))) }
 {
     working_len_with(row, names_len(row.entry().names.items()))

@@ -9,6 +9,7 @@ mod copies;
 mod create;
 mod data_records;
 mod error;
+mod extent_lengths;
 mod extents;
 mod holders;
 mod lengths;
@@ -34,6 +35,7 @@ mod taken;
 mod valid;
 
 pub use change_lengths::{ChangeLengths, deletion_bytes};
+pub use extent_lengths::ExtentLengths;
 pub use error::{ApplyError, Moved, TableError};
 pub use fs_model::Move;
 pub use record_model::{Extent, Extents, FileEntry, Files, Name, Names, Record};
