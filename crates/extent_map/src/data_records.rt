@@ -51,7 +51,14 @@ fn committed_update(alloc: Global, row: &Row, now: u64) -> Result<Record, AllocE
     ensures { IfOk result (λ update. update ≡ commit_record now row.now) }
 {
     let time = row.commit_time(now);
-    let entry = changed_entry(alloc, row.entry(), row.size(), time, NO_ACTIVE, row.unrecorded())?;
+    let entry = changed_entry(
+        alloc,
+        row.entry(),
+        row.size(),
+        time,
+        NO_ACTIVE,
+        row.unrecorded(),
+    )?;
     Ok(Record::Update(entry))
 }
 

@@ -35,8 +35,8 @@ mod taken;
 mod valid;
 
 pub use change_lengths::{ChangeLengths, deletion_bytes};
-pub use extent_lengths::ExtentLengths;
 pub use error::{ApplyError, Moved, TableError};
+pub use extent_lengths::ExtentLengths;
 pub use fs_model::Move;
 pub use record_model::{Extent, Extents, FileEntry, Files, Name, Names, Record};
 pub use table::FileTable;
