@@ -62,7 +62,7 @@ fn looks_formatted<D: ZonedDevice>(
     ensures cause { HasCause (D.faults dev.old) (D.faults dev.new) (IsErrOf result LogError.DevFault) }
 {
     let written = written_of(dev, zone)?;
-    let mut reader = LogReader::new(zone, geometry, written);
+    let mut reader = LogReader::new(alloc, zone, geometry, written);
     let next = next_record(alloc, dev, &mut reader)?;
     match next {
         NextRecord::End(_) => Ok(false),

@@ -6,7 +6,7 @@ ghost use Rattle.zone_image.specs.Infos.{info_at};
 ghost use Rattle.zone_image.specs.Reads.{OnlyReads};
 ghost use Rattle.zoned_device.specs.Window.{window};
 ghost use Rattle.log_model.specs.LogSelection.{bad_record};
-ghost use Rattle.meta_log.specs.Reader.{IsSameLog, scan_left};
+ghost use Rattle.meta_log.specs.Reader.{IsHeld, IsSameLog, scan_left};
 ghost use Rattle.log_roll.specs.Records.{Begins, IsShort};
 
 use log_model::DamageWhy;
@@ -58,10 +58,12 @@ pub(crate) fn next_record<D: ZonedDevice>(
     requires same_block { reader.old.block_size ≡ (D.geometry dev.old).block }
     requires same_window { reader.old.window ≡ window (D.geometry dev.old) }
     requires same_written { reader.old.written ≡ (info_at (D.infos dev.old) reader.old.zone).written }
+    requires held { D.tells → IsHeld reader.old (D.image dev.old) }
     ensures begins { IfOk result (λ next. D.tells → Begins (scan_left reader.old (zone_at (D.image dev.old) reader.old.zone).blocks) next
         (scan_left reader.new (zone_at (D.image dev.old) reader.old.zone).blocks)) }
     ensures short { IfOk result IsShort }
     ensures same { IsSameLog reader.old reader.new }
+    ensures held { D.tells → IsHeld reader.new (D.image dev.new) }
     ensures device { OnlyReads D.known D.geometry D.infos D.tells D.image D.tick D.since D.failed_changes dev.old dev.new }
     ensures cause { HasCause (D.faults dev.old) (D.faults dev.new) (IsErrOf result LogError.DevFault) }
 {

@@ -8,7 +8,7 @@ ghost use Rattle.zoned_device.specs.Window.{window};
 ghost use Rattle.record_model.specs.Decoding.{record_of};
 ghost use Rattle.log_model.specs.LogScan.{scan};
 ghost use Rattle.log_model.specs.LogSelection.{is_snapshot};
-ghost use Rattle.meta_log.specs.Reader.{IsSameLog, scan_left};
+ghost use Rattle.meta_log.specs.Reader.{IsHeld, IsSameLog, scan_left};
 ghost use Rattle.log_roll.specs.Summaries.{IsSoundLog, end_seen, is_clean_end, only_end, rest_with, unless_bad, without_log, zone_summary};
 ghost use Rattle.log_roll.specs.Rests.{rest_of, tail_of};
 
@@ -64,7 +64,7 @@ pub(crate) fn summary_of<D: ZonedDevice>(
     ensures cause { HasCause (D.faults dev.old) (D.faults dev.new) (IsErrOf result LogError.DevFault) }
 {
     let written = written_of(dev, zone)?;
-    let mut reader = LogReader::new(zone, geometry, written);
+    let mut reader = LogReader::new(alloc, zone, geometry, written);
     summary_by(alloc, dev, geometry, zone, written, &mut reader)
 }
 
@@ -85,6 +85,7 @@ fn summary_by<D: ZonedDevice>(
     requires same_window { reader.old.window ≡ window (D.geometry dev.old) }
     requires same_written { reader.old.written ≡ (info_at (D.infos dev.old) reader.old.zone).written }
     requires all_written { reader.old.written ≡ written }
+    requires held { D.tells → IsHeld reader.old (D.image dev.old) }
     ensures summary { IfOk result (λ found. D.tells → found ≡ zone_summary geometry.now zone (scan_left reader.old (zone_at (D.image dev.old) reader.old.zone).blocks)) }
     ensures sound { IfOk result (λ found. IfOk found IsSoundLog) }
     ensures device { OnlyReads D.known D.geometry D.infos D.tells D.image D.tick D.since D.failed_changes dev.old dev.new }
@@ -136,6 +137,7 @@ fn rest_of<D: ZonedDevice>(
     requires same_window { reader.old.window ≡ window (D.geometry dev.old) }
     requires same_written { reader.old.written ≡ (info_at (D.infos dev.old) reader.old.zone).written }
     requires all_written { reader.old.written ≡ written }
+    requires held { D.tells → IsHeld reader.old (D.image dev.old) }
     ensures rest { IfOk result (λ rest. D.tells → rest ≡ rest_of zone (scan_left reader.old (zone_at (D.image dev.old) reader.old.zone).blocks)) }
     ensures device { OnlyReads D.known D.geometry D.infos D.tells D.image D.tick D.since D.failed_changes dev.old dev.new }
     ensures cause { HasCause (D.faults dev.old) (D.faults dev.new) (IsErrOf result LogError.DevFault) }
@@ -230,6 +232,7 @@ fn tail_of<D: ZonedDevice>(
     requires same_window { reader.old.window ≡ window (D.geometry dev.old) }
     requires same_written { reader.old.written ≡ (info_at (D.infos dev.old) reader.old.zone).written }
     requires all_written { reader.old.written ≡ written }
+    requires held { D.tells → IsHeld reader.old (D.image dev.old) }
     ensures tail { IfOk result (λ tail. D.tells → tail ≡ tail_of (scan_left reader.old (zone_at (D.image dev.old) reader.old.zone).blocks)) }
     ensures device { OnlyReads D.known D.geometry D.infos D.tells D.image D.tick D.since D.failed_changes dev.old dev.new }
     ensures cause { HasCause (D.faults dev.old) (D.faults dev.new) (IsErrOf result LogError.DevFault) }

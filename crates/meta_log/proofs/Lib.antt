@@ -1,3 +1,5 @@
 pub mod Reading
 pub mod Adding
 pub mod Scanning
+pub mod Windows
+pub mod Held

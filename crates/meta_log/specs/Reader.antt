@@ -1,5 +1,8 @@
 -- A reader of the records of a zone, one by one.
-use Rattle.std.specs.Prelude.{◌≡◌, ℕ, ◌+◌, ◌^◌, ◌<◌, ◌≤◌, ⊤, List, [], length, drop, Option, Some, None}
+use Rattle.std.specs.Prelude.{◌≡◌, ℕ, ◌+◌, ◌-◌, ◌*◌, ◌^◌, ◌<◌, ◌≤◌, ⊤, List, [], length, take, drop, Option, Some, None}
+use Rattle.std.specs.List.{concat}
+use Rattle.zone_image.specs.Image.{Image, zone_at}
+use Rattle.zone_image.specs.Changes.{bytes_at}
 use Rattle.log_model.specs.LogScan.{Item, Scan, ScanEnd, blocks_of, first_item, scan_from, with_payload}
 use Rattle.log_model.specs.LogScan.Item.{NoMore, Unfinished, Wrong, Whole}
 use Rattle.log_model.specs.LogScan.ScanEnd.{Clean, Torn, Bad}
@@ -9,8 +12,8 @@ use Rattle.meta_log.specs.declared.item.Found.TheVariants as found
 use Rattle.meta_log.specs.declared.item.LogItem.{LogItem}
 use Rattle.meta_log.specs.declared.item.LogItem.TheVariants as log_item
 
--- a reader: its zone, the device's block size and window, the zone's written blocks, the next block, and the end that it
--- found
+-- a reader: its zone, the device's block size and window, the zone's written blocks, the next block, the end that it
+-- found, and the bytes that it holds of the blocks from the next one on
 pub record ReaderState : Type 0 where
   pub zone : ℕ
   pub block_size : ℕ
@@ -18,6 +21,25 @@ pub record ReaderState : Type 0 where
   pub written : ℕ
   pub next : ℕ
   pub ended : Option ScanEnd
+  pub held : List ℕ
+
+-- the last blocks of a buffer
+abbrev pub last_blocks : ℕ → ℕ → List ℕ → List ℕ
+last_blocks block_size kept buffer = drop (length buffer - kept * block_size) buffer
+
+-- a reader passes over no more blocks than are written, and keeps no more than its window and its buffer have
+pub record IsReader (next written kept window block_size : ℕ) (buffer : List ℕ) : Type 0 where
+  pub within : next ≤ written
+  pub few : kept ≤ window
+  pub there : kept * block_size ≤ length buffer
+
+-- what a reader holds are the first bytes of the blocks of this image that stand from its next one on
+abbrev pub IsHeld : ReaderState → Image → Type 0
+IsHeld s i = s.held ≡ take (length s.held) (concat (drop s.next (zone_at i s.zone).blocks))
+
+-- the payload of the next record, of this length and so many blocks
+abbrev pub payload_at : ReaderState → Image → ℕ → ℕ → List ℕ
+payload_at s i len count = take len (drop 8 (bytes_at i s.zone s.next count))
 
 -- a reader of the same zone, wherever it stands there
 pub record IsSameLog (old new : ReaderState) : Type 0 where
@@ -25,6 +47,15 @@ pub record IsSameLog (old new : ReaderState) : Type 0 where
   pub block_size : new.block_size ≡ old.block_size
   pub window : new.window ≡ old.window
   pub written : new.written ≡ old.written
+
+-- a reader at the same place of the same log, whatever it holds
+pub record IsSamePlace (old new : ReaderState) : Type 0 where
+  pub zone : new.zone ≡ old.zone
+  pub block_size : new.block_size ≡ old.block_size
+  pub window : new.window ≡ old.window
+  pub written : new.written ≡ old.written
+  pub next : new.next ≡ old.next
+  pub ended : new.ended ≡ old.ended
 
 -- the item that stands at a block
 abbrev pub item_at : ℕ → Item → LogItem
@@ -92,7 +123,7 @@ with_item log_item.Clean rest = record { payloads = []; end = Clean }
 with_item (log_item.Torn block) rest = record { payloads = []; end = Torn block }
 with_item (log_item.Bad block len stored computed) rest = record { payloads = []; end = Bad block len stored computed }
 
--- the reader behind an item
+-- the reader behind an item, but for what it holds
 abbrev pub reader_after : ReaderState → LogItem → ReaderState
 reader_after s (log_item.Payload block bytes) = record s { next = s.next + blocks_of s.block_size (length bytes) }
 reader_after s log_item.Clean = record s { ended = Some Clean }

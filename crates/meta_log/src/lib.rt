@@ -7,6 +7,7 @@ mod item;
 mod read;
 mod reader;
 mod record;
+mod verdict;
 
 pub use append::add;
 pub use error::LogError;

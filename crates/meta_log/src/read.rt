@@ -1,5 +1,5 @@
-// The blocks of one record, read from a device.
-ghost use Rattle.std.specs.Prelude.{◌≡◌, ◌+◌, ◌*◌, ◌≤◌, ◌<◌, ◌++◌, length, OnOk, IsErrOf};
+// The bytes of one record, read from a device.
+ghost use Rattle.std.specs.Prelude.{◌≡◌, ◌+◌, ◌*◌, ◌≤◌, ◌<◌, ◌++◌, length, take, drop, IfOk, OnOk, IsErrOf};
 ghost use Rattle.zone_image.specs.Changes.{bytes_at};
 ghost use Rattle.zone_image.specs.Counts.{HasCause};
 ghost use Rattle.zone_image.specs.Infos.{info_at};
@@ -7,6 +7,9 @@ ghost use Rattle.zone_image.specs.Reads.{OnlyReads};
 ghost use Rattle.zoned_device.specs.Window.{window};
 
 use crate::error::LogError;
+use crate::record::HEADER;
+use record_model::Payload;
+use std::alloc::Global;
 use zoned_device::ZonedDevice;
 
 /// Reads so many blocks of a zone, from this one on, behind the bytes, and no more of them at once than `most`.
@@ -62,5 +65,35 @@ fn fill<D: ZonedDevice>(
     match zoned_device::read_blocks(dev, block_size, most, zone, from, part) {
         Ok(()) => Ok(()),
         Err(_) => Err(LogError::DevFault),
+    }
+}
+
+/// The payload of this length that stands behind the header of the record in these blocks.
+pub(crate) fn copied(alloc: Global, blocks: &[u8], len: u32) -> Result<Payload, LogError>
+    requires { HEADER + len ≤ length blocks.now }
+    ensures payload { IfOk result (λ payload. payload ≡ take len (drop 8 blocks.now)) }
+    ensures len { IfOk result (λ payload. length payload ≡ len) }
+    ensures memory { IsErrOf result LogError.DevFault → ⊥ }
+{
+    let payload = &blocks[HEADER..HEADER + len as usize];
+    match Vec::from_slice(alloc, payload) {
+        Ok(bytes) => Ok(Payload::from_vec(bytes)),
+        Err(_) => Err(LogError::NoMemory),
+    }
+}
+
+/// What stands behind the header in the first block of a record, with room for the others: the record has so many bytes.
+pub(crate) fn begun(alloc: Global, first: &[u8], size: usize) -> Result<Vec<u8>, LogError>
+    requires first { HEADER ≤ length first.now }
+    requires room { HEADER ≤ size }
+    ensures bytes { IfOk result (λ bytes. bytes.items ≡ drop 8 first.now) }
+    ensures memory { IsErrOf result LogError.DevFault → ⊥ }
+{
+    let Ok(mut bytes) = Vec::with_capacity(alloc, size - HEADER) else {
+        return Err(LogError::NoMemory);
+    };
+    match bytes.extend_from_slice(&first[HEADER..]) {
+        Ok(()) => Ok(bytes),
+        Err(_) => Err(LogError::NoMemory),
     }
 }

@@ -108,7 +108,7 @@ last_ends last whole all none before = sym (ap (last_after last) none) ∙ befor
 -- ---- a log whose first payload is its superblock
 
 -- a new reader has the whole log of its zone before it
-pub new_reader : (r : ReaderState) (i : Image) (g : Geometry) (zone written : ℕ) → r ≡ record { zone = zone; block_size = g.block; window = window g; written = written; next = 0; ended = None } → g ≡ i.geometry
+pub new_reader : (r : ReaderState) (i : Image) (g : Geometry) (zone written : ℕ) → r ≡ record { zone = zone; block_size = g.block; window = window g; written = written; next = 0; ended = None; held = [] } → g ≡ i.geometry
     → scan_left r (zone_at i r.zone).blocks ≡ scan_at i zone
 unfolding scan
 new_reader r i g zone written is shape =

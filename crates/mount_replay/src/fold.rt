@@ -8,7 +8,7 @@ ghost use Rattle.zoned_device.specs.Window.{window};
 ghost use Rattle.log_model.specs.FileTable.{replay_from};
 ghost use Rattle.extent_map.specs.Applying.{rows_of};
 ghost use Rattle.extent_map.specs.Records.{recorded_of};
-ghost use Rattle.meta_log.specs.Reader.{scan_left};
+ghost use Rattle.meta_log.specs.Reader.{IsHeld, scan_left};
 ghost use Rattle.mount_replay.specs.Folding.{last_after, IsDamagedAs};
 ghost use Rattle.mount_replay.specs.SoundTables.{IsSoundTable};
 
@@ -44,6 +44,7 @@ pub(crate) fn fold_log<D: ZonedDevice>(
     requires same_block { reader.old.block_size ≡ (D.geometry dev.old).block }
     requires same_window { reader.old.window ≡ window (D.geometry dev.old) }
     requires same_written { reader.old.written ≡ (info_at (D.infos dev.old) reader.old.zone).written }
+    requires held { D.tells → IsHeld reader.old (D.image dev.old) }
     requires settled { table.old.rows ≡ rows_of (recorded_of table.old.rows) }
     requires sound { IsSoundTable (recorded_of table.old.rows) }
     ensures folded { IfOk result (λ last. D.tells → replay_from false (recorded_of table.old.rows)

@@ -5,7 +5,7 @@ ghost use Rattle.zone_image.specs.Image.{zone_at};
 ghost use Rattle.zone_image.specs.Infos.{info_at};
 ghost use Rattle.zone_image.specs.Reads.{OnlyReads};
 ghost use Rattle.zoned_device.specs.Window.{window};
-ghost use Rattle.meta_log.specs.Reader.{IsSameLog, scan_left};
+ghost use Rattle.meta_log.specs.Reader.{IsHeld, IsSameLog, scan_left};
 ghost use Rattle.mount_replay.specs.Payloads.{Takes, IsShortRecord, IsNoDamage};
 
 use crate::error::ReplayError;
@@ -32,11 +32,13 @@ pub(crate) fn next_record<D: ZonedDevice>(
     requires same_block { reader.old.block_size ≡ (D.geometry dev.old).block }
     requires same_window { reader.old.window ≡ window (D.geometry dev.old) }
     requires same_written { reader.old.written ≡ (info_at (D.infos dev.old) reader.old.zone).written }
+    requires held { D.tells → IsHeld reader.old (D.image dev.old) }
     ensures takes { IfOk result (λ found. D.tells → Takes (scan_left reader.old (zone_at (D.image dev.old) reader.old.zone).blocks) found
         (scan_left reader.new (zone_at (D.image dev.old) reader.old.zone).blocks)) }
     ensures short { IfOk result (λ found. IfSome found IsShortRecord) }
     ensures advances { IfOk result (λ found. IfSome found (λ _. reader.old.next < reader.new.next)) }
     ensures same { IsSameLog reader.old reader.new }
+    ensures held { D.tells → IsHeld reader.new (D.image dev.new) }
     ensures only { IfErr result IsNoDamage }
     ensures device { OnlyReads D.known D.geometry D.infos D.tells D.image D.tick D.since D.failed_changes dev.old dev.new }
     ensures cause { HasCause (D.faults dev.old) (D.faults dev.new) (IsErrOf result ReplayError.DevFault) }

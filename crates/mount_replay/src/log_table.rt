@@ -45,7 +45,7 @@ pub(crate) fn log_table<D: ZonedDevice>(
     ensures device { OnlyReads D.known D.geometry D.infos D.tells D.image D.tick D.since D.failed_changes dev.old dev.new }
     ensures cause { HasCause (D.faults dev.old) (D.faults dev.new) (IsErrOf result ReplayError.DevFault) }
 {
-    let mut reader = LogReader::new(log.zone, geometry, log.written);
+    let mut reader = LogReader::new(alloc, log.zone, geometry, log.written);
     let mut table = FileTable::new(alloc);
     let Some(superblock) = next_record(alloc, dev, &mut reader)? else {
         return Ok(LogTable { table, last: 0 });

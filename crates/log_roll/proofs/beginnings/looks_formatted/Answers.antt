@@ -24,9 +24,9 @@ returns-in-End-clause-looks g c = λ told.
     none_looks whole end_is.0
     ∙ payload_by shape (D.image dev) c.args.zone whole ((g.met.D.ZonedDevice.told dev told c.requires.is_known).shape ∙ sym c.requires.same_geometry) (sym whole_is)
 
-pub returns-in-Payload-clause-looks : goal.returns-in-Payload-clause-looks
+pub returns-clause-looks : goal.returns-clause-looks
 unfolding scan
-returns-in-Payload-clause-looks g c = λ told.
+returns-clause-looks g c = λ told.
     let D = g.D.ZonedDevice in
     let dev = c.args.dev.now in
     let shape = c.args.geometry.now in
@@ -45,5 +45,5 @@ returns-in-Payload-clause-looks g c = λ told.
 pub returns-in-End-clause-device : goal.returns-in-End-clause-device
 returns-in-End-clause-device g c = reads_on g.met.D.ZonedDevice.moments c.in_ok-written.ensures.device c.in_ok-next.ensures.device
 
-pub returns-in-Payload-clause-device : goal.returns-in-Payload-clause-device
-returns-in-Payload-clause-device g c = reads_on g.met.D.ZonedDevice.moments c.in_ok-written.ensures.device c.in_ok-next.ensures.device
+pub returns-clause-device : goal.returns-clause-device
+returns-clause-device g c = reads_on g.met.D.ZonedDevice.moments c.in_ok-written.ensures.device c.in_ok-next.ensures.device

@@ -19,6 +19,7 @@ loop-left-init g c =
       reads = reads_nothing g.met.D.ZonedDevice.moments dev c.requires.is_known;
       faults = omega arith;
       same = record { zone = refl; block_size = refl; window = refl; written = refl };
+      held = c.requires.held;
       read = λ told.
           let count : (info_at (D.infos dev) reader.zone).written ≡ length blocks =
           written_is (D.geometry dev) (D.infos dev) (D.image dev) reader.zone (g.met.D.ZonedDevice.possible dev c.requires.is_known) (g.met.D.ZonedDevice.told dev told c.requires.is_known) c.requires.is_zone in
@@ -51,6 +52,7 @@ loop-left-preserved g c =
         window = c.next_record.ensures.same.window ∙ it.same.window;
         written = c.next_record.ensures.same.written ∙ it.same.written;
       };
+      held = c.next_record.ensures.held;
       read = λ told.
           let same_blocks : (zone_at (D.image c.loop-left.dev) reader.zone).blocks ≡ first_blocks =
           ap (λ i. (zone_at i reader.zone).blocks) (it.reads.same_image told) ∙ ap (λ z. (zone_at (D.image c.args.dev.now) z).blocks) it.same.zone in

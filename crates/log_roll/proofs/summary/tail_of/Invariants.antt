@@ -1,7 +1,7 @@
 use Rattle.std.proofs.Common.{◌≤◌}
 use Rattle.zone_image.specs.Image.{zone_at}
 use Rattle.zone_image.specs.Reads.{OnlyReads}
-use Rattle.meta_log.specs.Reader.{IsSameLog, scan_left}
+use Rattle.meta_log.specs.Reader.{IsHeld, IsSameLog, scan_left}
 use Rattle.log_roll.proofs.Tails.{IsReadTo}
 use Rattle.log_roll.proofs.summary.tail_of.Given as goal
 
@@ -17,5 +17,6 @@ invariant-loop-left g l =
       reads : OnlyReads D.known D.geometry D.infos D.tells D.image D.tick D.since D.failed_changes l.fn.dev l.dev;
       faults : D.faults l.fn.dev ≤ D.faults l.dev;
       same : IsSameLog l.fn.reader l.reader;
+      held : D.tells → IsHeld l.reader (D.image l.dev);
       read : D.tells → IsReadTo (scan_left l.fn.reader blocks) l.has_end (scan_left l.reader blocks) l.left;
     }

@@ -67,6 +67,7 @@ loop-taken-preserved g c =
           let takes = taken_at now old (D.image dev) (D.image c.loop-taken.dev) zone r c.loop-taken.invariant.2.zone (c.loop-taken.invariant.0.same_image told)
           (subst (λ o. Takes (scan_left old (zone_at (D.image c.loop-taken.dev) old.zone).blocks) o (scan_left now (zone_at (D.image c.loop-taken.dev) old.zone).blocks)) c.in-Some.is (c.in_ok-found.ensures.takes told)) in
           last_more c.loop-taken.last (scan_left old blocks) (scan_left now blocks) r (last_after c.args.before (scan_left c.args.reader.now blocks).payloads) takes (c.loop-taken.invariant.7 told),
+      c.in_ok-found.ensures.held,
     )
 
 pub returns-clause-folded : goal.returns-clause-folded

@@ -4,7 +4,7 @@ use Rattle.zone_image.specs.Reads.{OnlyReads}
 use Rattle.log_model.specs.FileTable.{replay_from}
 use Rattle.extent_map.specs.Applying.{rows_of}
 use Rattle.extent_map.specs.Records.{recorded_of}
-use Rattle.meta_log.specs.Reader.{IsSameLog, scan_left}
+use Rattle.meta_log.specs.Reader.{IsHeld, IsSameLog, scan_left}
 use Rattle.mount_replay.specs.Folding.{last_after}
 use Rattle.mount_replay.specs.SoundTables.{IsSoundTable}
 use Rattle.mount_replay.proofs.fold.fold_log.Given as goal
@@ -22,3 +22,4 @@ invariant-loop-taken g l =
     ≡ replay_from false (recorded_of l.fn.table.rows) (scan_left l.fn.reader (zone_at (D.image l.fn.dev) l.fn.reader.zone).blocks).payloads)
     × (D.tells → last_after l.last (scan_left l.reader (zone_at (D.image l.fn.dev) l.fn.reader.zone).blocks).payloads
     ≡ last_after l.fn.before (scan_left l.fn.reader (zone_at (D.image l.fn.dev) l.fn.reader.zone).blocks).payloads)
+    × (D.tells → IsHeld l.reader (D.image l.dev))

@@ -44,8 +44,8 @@ taken r s i zone superblock whole takes = sym whole ∙ takes
 rest_there : (r s : ReaderState) (i j : Image) → j ≡ i → s.zone ≡ r.zone → scan_left s (zone_at j s.zone).blocks ≡ scan_left s (zone_at i r.zone).blocks
 rest_there r s i j image zone = ap (λ (k : Image). scan_left s (zone_at k s.zone).blocks) image ∙ ap (λ (z : ℕ). scan_left s (zone_at i z).blocks) zone
 
-pub returns-in-Err-clause-damaged : goal.returns-in-Err-clause-damaged
-returns-in-Err-clause-damaged g c = λ told.
+pub returns-clause-damaged : goal.returns-clause-damaged
+returns-clause-damaged g c = λ told.
     let D = g.D.ZonedDevice in
     let i = D.image c.args.dev.now in
     let image = g.met.D.ZonedDevice.told c.args.dev.now told c.requires.is_known in
@@ -59,8 +59,8 @@ returns-in-Err-clause-damaged g c = λ told.
     ∙ ap (λ (x : Scan). replay_from false (recorded_of c.new-table.result.rows) x.payloads) (sym rest) in
     subst (λ x. IsDamagedAs c.args.log.zone x c.in-Err.e) (sym all) (c.in-Err.ensures.damaged told)
 
-pub returns-in-Err-clause-device : goal.returns-in-Err-clause-device
-returns-in-Err-clause-device g c = reads_on g.met.D.ZonedDevice.moments c.in_ok-superblock.ensures.device c.in-Err.ensures.device
+pub returns-clause-device : goal.returns-clause-device
+returns-clause-device g c = reads_on g.met.D.ZonedDevice.moments c.in_ok-superblock.ensures.device c.in-Err.ensures.device
 
 pub returns-in-Ok-clause-table : goal.returns-in-Ok-clause-table
 returns-in-Ok-clause-table g c = λ told.
