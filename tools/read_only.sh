@@ -1,5 +1,5 @@
 #!/usr/bin/env bash
-# Tries `zenfs` on images that can't be written or read: `list` and `fs-info` work on those that can be read, and all other
+# Tries `zenfs` on images that can't be written or read: `list`, `fs-info`, `df` and `dump` work on those that can be read, and all other
 # commands end with a device fault (3) and leave the image as it is. Permissions are tried as an unprivileged user, and a
 # read-only mount and an immutable file where the machine lets them be made. Build the program first, by ./quickstart.
 #
@@ -23,12 +23,12 @@ as_anybody() {
     fi
 }
 
-# The commands over an image: the two that read end with this status, and the others with 3.
+# The commands over an image: the four that only read end with this status, and the others with 3.
 try() { # WHAT RUNNER IMAGE STATUS
     local what=$1 runner=$2 image=$3 wanted=$4 before
     before=$(sha256sum <"$image")
     local words status
-    for words in list fs-info; do
+    for words in list fs-info df dump; do
         $runner $words --image="$image" >out 2>err
         status=$?
         if [ $status != "$wanted" ] || { [ "$wanted" = 3 ] && ! grep -qx 'zenfs: device fault' err; }; then

@@ -79,6 +79,8 @@ for image in none small text; do
     try $image prints list --image=image
     try $image prints list --image=image --path=notes
     try $image prints fs-info --image=image
+    try $image prints df --image=image
+    try $image prints dump --image=image
     try $image silent delete --image=image --path=a.txt
     try $image silent delete --image=image --path=missing
     try $image silent link --image=image --src_file=a.txt --dst_file=b.txt

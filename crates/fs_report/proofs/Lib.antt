@@ -4,3 +4,4 @@ pub mod StableSort
 pub mod LinesInOrder
 pub mod Pieces
 pub mod Saying
+pub mod DumpTexts

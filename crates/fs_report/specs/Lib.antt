@@ -3,3 +3,5 @@ pub mod MemSinkState
 pub mod Written
 pub mod Lines
 pub mod Causes
+pub mod DumpValues
+pub mod DumpState

@@ -8,8 +8,12 @@ use std::alloc::{AllocError, Global};
 use superblock_core::Superblock;
 use uuid::Uuid;
 
-// Adds a line: a label, and a text.
-fn push_text_line(text: &mut Vec<u8>, label: &str, value: &[u8]) -> Result<(), AllocError>
+/// Adds a line: a label, and a text.
+pub(crate) fn push_text_line(
+    text: &mut Vec<u8>,
+    label: &str,
+    value: &[u8],
+) -> Result<(), AllocError>
     ensures { OnOk result (text.new.items ≡ text.old.items ++ text_line label.now value.now) }
 {
     text.extend_from_slice(label.as_bytes())?;

@@ -159,7 +159,15 @@ fn push_times(line: &mut String, text: &str, times: u32) -> Result<(), AllocErro
     Ok(())
 }
 
-/// A line in which each `{TEXT*TIMES}`, four at most, stands written out.
+// Adds a text in braces.
+fn push_braced(line: &mut String, text: &str) -> Result<(), AllocError> {
+    line.push_str("{")?;
+    line.push_str(text)?;
+    line.push_str("}")?;
+    Ok(())
+}
+
+/// A line in which each `{TEXT*TIMES}`, four at most, stands written out. Other braces stand for themselves.
 pub fn written_out(alloc: Global, line: &str) -> Result<String, AllocError> {
     let mut text = String::new(alloc);
     let mut rest = line;
@@ -167,10 +175,14 @@ pub fn written_out(alloc: Global, line: &str) -> Result<String, AllocError> {
         let Some((front, behind)) = rest.split_once('{') else {
             break;
         };
-        let (inside, back) = behind.split_once('}').unwrap_or((behind, ""));
-        let (part, times) = inside.split_once('*').unwrap_or((inside, "1"));
+        let Some((inside, back)) = behind.split_once('}') else {
+            break;
+        };
         text.push_str(front)?;
-        push_times(&mut text, part, number(times))?;
+        match inside.split_once('*') {
+            Some((part, times)) => push_times(&mut text, part, number(times))?,
+            None => push_braced(&mut text, inside)?,
+        }
         rest = back;
     }
     text.push_str(rest)?;

@@ -8,3 +8,4 @@ pub mod ChangeEnds
 pub mod EndLaws
 pub mod Standing
 pub mod TreeStays
+pub mod DumpWalks

@@ -10,7 +10,6 @@ use Rattle.log_model.specs.TableLaws.{IdsRise}
 use Rattle.fs_model.specs.FsState.{TableRow, row_of}
 use Rattle.extent_map.specs.Lookups.{least_id_from, lower}
 use Rattle.extent_map.specs.Records.{recorded_of}
-use Rattle.command_model.specs.ReportTexts.{Listed, listed_names}
 use Rattle.zenfs_cmd.specs.Walks.{HaveIds, first_from, head_of, rest_from}
 
 -- the file of an id has it
@@ -196,29 +195,29 @@ first_has_id from [] f ids h = absurd cc
 first_has_id from (e ∷ es) f ids h =
     first_choice from (λ g. g.id < 2 ^ 64 - 1) e f es (nat_lt e.id from) refl (λ is. ids.0) (first_has_id from es f ids.1) h
 
--- ---- the lines of all files
+-- ---- what is made of all files, file by file
 
--- the lines of a file more
-pub lines_go_on : (lines next whole : List Listed) (from : ℕ) (es : Table) (f : FileEntry) → IdsRise 0 es → first_from from es ≡ Some f → next ≡ lines ++ listed_names f
-    → lines ++ flat_map listed_names (rest_from from es) ≡ whole → next ++ flat_map listed_names (rest_from (f.id + 1) es) ≡ whole
-lines_go_on lines next whole from es f rise first more so_far =
-    ap (λ ls. ls ++ flat_map listed_names (rest_from (f.id + 1) es)) more
-    ∙ append_assoc lines (listed_names f) (flat_map listed_names (rest_from (f.id + 1) es))
-    ∙ ap (λ rest. lines ++ flat_map listed_names rest) (sym (next_left from 0 es f rise first)) ∙ so_far
+-- what is made of a file more
+pub walk_goes_on : {X : Type 0} → (part : FileEntry → List X) (done next whole : List X) (from : ℕ) (es : Table) (f : FileEntry) → IdsRise 0 es → first_from from es ≡ Some f → next ≡ done ++ part f
+    → done ++ flat_map part (rest_from from es) ≡ whole → next ++ flat_map part (rest_from (f.id + 1) es) ≡ whole
+walk_goes_on part done next whole from es f rise first more so_far =
+    ap (λ made. made ++ flat_map part (rest_from (f.id + 1) es)) more
+    ∙ append_assoc done (part f) (flat_map part (rest_from (f.id + 1) es))
+    ∙ ap (λ rest. done ++ flat_map part rest) (sym (next_left from 0 es f rise first)) ∙ so_far
 
 -- no file more
-pub lines_end : (lines whole : List Listed) (from : ℕ) (es : Table) → first_from from es ≡ None → lines ++ flat_map listed_names (rest_from from es) ≡ whole → lines ≡ whole
-lines_end lines whole from es none so_far =
-    sym (append-nil lines) ∙ ap (λ rest. lines ++ flat_map listed_names rest) (sym (none_left (rest_from from es) none)) ∙ so_far
+pub walk_ends : {X : Type 0} → (part : FileEntry → List X) (done whole : List X) (from : ℕ) (es : Table) → first_from from es ≡ None → done ++ flat_map part (rest_from from es) ≡ whole → done ≡ whole
+walk_ends part done whole from es none so_far =
+    sym (append-nil done) ∙ ap (λ rest. done ++ flat_map part rest) (sym (none_left (rest_from from es) none)) ∙ so_far
 
 -- entries that can be written have such ids
 writable_ids : (es : Table) → AllByRecursion IsWritable es → HaveIds es
 writable_ids [] h = tt
 writable_ids (e ∷ es) h = (h.0.id, writable_ids es h.1)
 
--- the lines of a table's files are those of the state's
-pub lines_of_files : (lines : List Listed) (rows files : List TableRow) → files ≡ rows → IdsRise 0 (recorded_of rows) → AllByRecursion IsWritable (recorded_of rows)
-    → (IdsRise 0 (recorded_of files) → HaveIds (recorded_of files) → lines ≡ flat_map listed_names (recorded_of files)) → lines ≡ flat_map listed_names (recorded_of rows)
-lines_of_files lines rows files same rise writable all =
-    let P : List TableRow → Type 0 = λ rs. IdsRise 0 (recorded_of rs) → HaveIds (recorded_of rs) → lines ≡ flat_map listed_names (recorded_of rs) in
+-- what is made of a table's files is made of the state's
+pub walk_of_files : {X : Type 0} → (made : Table → List X) (done : List X) (rows files : List TableRow) → files ≡ rows → IdsRise 0 (recorded_of rows) → AllByRecursion IsWritable (recorded_of rows)
+    → (IdsRise 0 (recorded_of files) → HaveIds (recorded_of files) → done ≡ made (recorded_of files)) → done ≡ made (recorded_of rows)
+walk_of_files {X = X} made done rows files same rise writable all =
+    let P : List TableRow → Type 0 = λ rs. IdsRise 0 (recorded_of rs) → HaveIds (recorded_of rs) → done ≡ made (recorded_of rs) in
     subst P same all rise (writable_ids (recorded_of rows) writable)

@@ -2,11 +2,13 @@
 use Rattle.std.specs.Prelude.{◌≡◌, ⊤, ℕ, List, [], ◌++◌, Option, Some, None, IsSome, IfSome, option_map}
 use Rattle.std.specs.Result.{result_ok}
 use Rattle.zone_image.specs.Image.{Image}
-use Rattle.fs_model.specs.FsState.{FsState, recorded, state_in}
+use Rattle.fs_model.specs.FsState.{FsState, recorded, state_in, zone_states}
+use Rattle.fs_model.specs.ZonePolicy.{space}
 use Rattle.command_model.specs.CommandLine.{Command}
-use Rattle.command_model.specs.CommandLine.Command.{MakeImage, MakeFs, ListFiles, ShowInfo, LinkFile, RenameFile, DeleteFile}
+use Rattle.command_model.specs.CommandLine.Command.{MakeImage, MakeFs, ListFiles, ShowSpace, Dump, ShowInfo, LinkFile, RenameFile, DeleteFile}
 use Rattle.command_model.specs.Options.{Word}
-use Rattle.command_model.specs.ReportTexts.{info_text, list_text, made_fs_text, made_image_text}
+use Rattle.command_model.specs.DumpText.{dump_text}
+use Rattle.command_model.specs.ReportTexts.{df_text, info_text, list_text, made_fs_text, made_image_text}
 use Rattle.fs_report.specs.declared.cause.Cause.{Cause}
 use Rattle.fs_report.specs.declared.cause.Cause.TheVariants.{OutputFault}
 use Rattle.fs_report.specs.Written.{AddsFront}
@@ -19,6 +21,14 @@ text_of_state text i = option_map text (result_ok (state_in i))
 abbrev pub listed_text : Option Word → Image → Option (List ℕ)
 listed_text prefix i = text_of_state (λ s. list_text (recorded s) prefix) i
 
+-- the lines on space
+abbrev pub space_text : Image → Option (List ℕ)
+space_text i = text_of_state (λ s. df_text s.geometry (space s.geometry (zone_states s))) i
+
+-- the dump of the files and the zones
+abbrev pub dumped_text : Image → Option (List ℕ)
+dumped_text i = text_of_state (λ s. dump_text (recorded s) (zone_states s)) i
+
 -- the lines on the superblock of the log that counts
 abbrev pub shown_text : Image → Option (List ℕ)
 shown_text i = text_of_state (λ s. info_text s.log.superblock) i
@@ -28,6 +38,8 @@ abbrev pub output_text : Command → Image → Option (List ℕ)
 output_text (MakeImage at g over) i = Some (made_image_text g)
 output_text (MakeFs at aux threshold collect over) i = Some (made_fs_text i.geometry)
 output_text (ListFiles at prefix) i = listed_text prefix i
+output_text (ShowSpace at) i = space_text i
+output_text (Dump at) i = dumped_text i
 output_text (ShowInfo at) i = shown_text i
 output_text (LinkFile at old new) i = Some []
 output_text (RenameFile at old new) i = Some []

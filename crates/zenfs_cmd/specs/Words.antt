@@ -4,7 +4,7 @@ use Rattle.std.specs.Option.{option_copied}
 use Rattle.log_model.specs.Format.{is_aux_path}
 use Rattle.command_model.specs.Options.{Word, ◌>>=◌, only_if}
 use Rattle.command_model.specs.CommandLine as line
-use Rattle.command_model.specs.CommandLine.Command.{MakeImage, MakeFs, ListFiles, ShowInfo, LinkFile, RenameFile, DeleteFile}
+use Rattle.command_model.specs.CommandLine.Command.{MakeImage, MakeFs, ListFiles, ShowSpace, Dump, ShowInfo, LinkFile, RenameFile, DeleteFile}
 use Rattle.zenfs_cmd.specs.declared.words.Asked.{Asked}
 use Rattle.zenfs_cmd.specs.declared.words.Asked.TheVariants as asked
 use Rattle.zenfs_cmd.specs.declared.words.Built.{Built}
@@ -15,6 +15,8 @@ abbrev pub is_built : line.Command → Bool
 is_built (MakeImage at g over) = true
 is_built (MakeFs at aux threshold collect over) = true
 is_built (ListFiles at prefix) = true
+is_built (ShowSpace at) = true
+is_built (Dump at) = true
 is_built (ShowInfo at) = true
 is_built (LinkFile at old new) = true
 is_built (RenameFile at old new) = true
@@ -40,6 +42,8 @@ abbrev pub meaning_of : Built → line.Command
 meaning_of (read.MakeImage image geometry force) = MakeImage image.now geometry force
 meaning_of (read.MakeFs image options) = MakeFs image.now options.aux_path.now options.finish_threshold options.collect options.force
 meaning_of (read.List image prefix) = ListFiles image.now (option_copied prefix)
+meaning_of (read.Space image) = ShowSpace image.now
+meaning_of (read.Dump image) = Dump image.now
 meaning_of (read.Info image) = ShowInfo image.now
 meaning_of (read.Change image change) = command_asked image.now change
 

@@ -32,11 +32,11 @@ use zoned_device::ZonedDevice;
 
 /// Does all that `zenfs` does with these words over this device, and hands the device back. Results go
 /// to `out`, and the line of a refusal to `err`, of which a fault changes nothing. A new file system's
-/// identifier is made of the random bits. Built are `mkimage`, `mkfs`, `list`, `fs-info`, `link`, `rename`
-/// and `delete`; the words of every other command are a bad command line.
+/// identifier is made of the random bits. Built are `mkimage`, `mkfs`, `list`, `df`, `dump`, `fs-info`,
+/// `link`, `rename` and `delete`; the words of every other command are a bad command line.
 ///
-/// `list`, `fs-info`, `link`, `rename` and `delete` mount the image, whatever log and files it has. A change of names
-/// is judged before anything is written, and is durable once it ends well (`changed`, `now`). Where it ends in want of
+/// `list`, `df`, `dump`, `fs-info`, `link`, `rename` and `delete` mount the image, whatever log and files it has. A change
+/// of names is judged before anything is written, and is durable once it ends well (`changed`, `now`). Where it ends in want of
 /// memory the tree is as it was (`tree_stays`).
 ///
 /// What a crash leaves is said of all commands but `mkimage` (`any_moment`). A crash within a change of names leaves

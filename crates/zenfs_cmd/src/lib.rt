@@ -4,6 +4,8 @@
 mod causes;
 mod change;
 mod command;
+mod dump;
+mod dumped;
 mod info;
 mod lines;
 mod list;
@@ -12,6 +14,7 @@ mod mounted;
 mod names;
 mod perform;
 mod refusal;
+mod space;
 mod words;
 mod writing;
 

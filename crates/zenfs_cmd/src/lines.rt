@@ -42,8 +42,8 @@ fn lines_in(alloc: Global, files: &FileTable) -> Result<Vec<Line<'_>>, AllocErro
     Ok(lines)
 }
 
-// The file with the least id from this one on.
-fn file_from(files: &FileTable, from: u64) -> Option<&FileEntry>
+/// The file with the least id from this one on.
+pub(crate) fn file_from(files: &FileTable, from: u64) -> Option<&FileEntry>
     ensures least { IfSome (option_copied result) (λ e. from ≤ e.id) }
     ensures first { IdsRise 0 (recorded_of files.now.rows) → option_copied result ≡ first_from from (recorded_of files.now.rows) }
 {

@@ -9,9 +9,11 @@ ghost use Rattle.zenfs_cmd.specs.Reasons.{CanBeDone, HasReason, IsUnwritten};
 ghost use Rattle.zenfs_cmd.specs.Words.{HasAuxPath, changes, makes_image, meaning_of};
 
 use crate::change::change_names;
+use crate::dump::show_dump;
 use crate::info::show_info;
 use crate::list::list_files;
 use crate::making::{make_file_system, make_image};
+use crate::space::show_space;
 use crate::words::Built;
 use fs_report::{Cause, Sink};
 use std::alloc::Global;
@@ -56,6 +58,8 @@ pub(crate) fn perform<'a, D: ZonedDevice, O: Sink>(
             (ended, dev)
         }
         Built::List { prefix, .. } => list_files(alloc, dev, out, prefix),
+        Built::Space { .. } => show_space(alloc, dev, out),
+        Built::Dump { .. } => show_dump(alloc, dev, out),
         Built::Info { .. } => show_info(alloc, dev, out),
         Built::Change { change, .. } => change_names(alloc, dev, change),
     }

@@ -29,6 +29,14 @@ pub(crate) enum Built<'a> {
         image: &'a str,
         prefix: Option<&'a str>,
     },
+    /// Shows the space.
+    Space {
+        image: &'a str,
+    },
+    /// Writes all of the tables.
+    Dump {
+        image: &'a str,
+    },
     /// Shows the superblock.
     Info {
         image: &'a str,
@@ -117,6 +125,8 @@ fn if_built(command: Command<'_>) -> Option<Built<'_>>
             },
         }),
         Command::ListFiles { image, prefix } => Some(Built::List { image, prefix }),
+        Command::ShowSpace { image } => Some(Built::Space { image }),
+        Command::Dump { image } => Some(Built::Dump { image }),
         Command::ShowInfo { image } => Some(Built::Info { image }),
         Command::LinkFile {
             image,
@@ -138,8 +148,6 @@ fn if_built(command: Command<'_>) -> Option<Built<'_>>
             image,
             change: Asked::Delete { path },
         }),
-        Command::ShowSpace { .. } => None,
-        Command::Dump { .. } => None,
         Command::Backup { .. } => None,
         Command::Restore { .. } => None,
     }

@@ -43,6 +43,18 @@ returns-in-List-clause-refused g c = rw c.in-List.is (c.list_files.ensures.refus
 pub returns-in-List-clause-allowed : goal.returns-in-List-clause-allowed
 returns-in-List-clause-allowed g c = rw c.in-List.is (c.list_files.ensures.allowed c.in-List.image.now)
 
+pub returns-in-Space-clause-refused : goal.returns-in-Space-clause-refused
+returns-in-Space-clause-refused g c = rw c.in-Space.is (c.show_space.ensures.refused c.in-Space.image.now c.args.random)
+
+pub returns-in-Space-clause-allowed : goal.returns-in-Space-clause-allowed
+returns-in-Space-clause-allowed g c = rw c.in-Space.is (c.show_space.ensures.allowed c.in-Space.image.now)
+
+pub returns-in-Dump-clause-refused : goal.returns-in-Dump-clause-refused
+returns-in-Dump-clause-refused g c = rw c.in-Dump.is (c.show_dump.ensures.refused c.in-Dump.image.now c.args.random)
+
+pub returns-in-Dump-clause-allowed : goal.returns-in-Dump-clause-allowed
+returns-in-Dump-clause-allowed g c = rw c.in-Dump.is (c.show_dump.ensures.allowed c.in-Dump.image.now)
+
 pub returns-in-Info-clause-refused : goal.returns-in-Info-clause-refused
 returns-in-Info-clause-refused g c = rw c.in-Info.is (c.show_info.ensures.refused c.in-Info.image.now c.args.random)
 
