@@ -1,0 +1,10 @@
+pub mod OpenBytes
+pub mod PowerMemState
+pub mod Layout
+pub mod Descriptors
+pub mod Table
+pub mod State
+pub mod Making
+pub mod AfterCall
+pub mod Laws
+pub mod Cuts
